@@ -1,4 +1,5 @@
 pub mod ClientLaws
 pub mod QueuedLaws
+mod RunsLaws
 pub mod ServerLaws
 pub mod TreesLaws

@@ -1,8 +1,8 @@
 -- Decoding bodies of checkpoints, with the first fault from the left.
-use Rattle.std.specs.Prelude.{[], ◌∷◌, Option, Some, None}
+use Rattle.std.specs.Prelude.{List, [], ◌∷◌, None}
 use Rattle.iot_tree.specs.declared.access.Access.{Access}
 use Rattle.iot_access.specs.Access.{no_access}
-use Rattle.iot_views.specs.Decoders.{Decoder, ◌>>=◌, done, number_at, list_at, tagged}
+use Rattle.iot_views.specs.Decoders.{Decoder, ◌>>=◌, done, number_at, at_most, items_at, list_at, tagged}
 use Rattle.iot_views.specs.Decoding.{access_at, name_at, option_at, budget_at, acts_at, tree_at, label_at}
 use Rattle.iot_queue.specs.declared.items.Stage.{Stage}
 use Rattle.iot_queue.specs.declared.items.Stage.TheVariants.{Waiting as Waits, Conflict, Manual, Resolved}
@@ -11,6 +11,7 @@ use Rattle.iot_bodies.specs.declared.server.ServerBody.{ServerBody}
 use Rattle.iot_bodies.specs.declared.client.ClientBody.{ClientBody}
 use Rattle.iot_bodies.specs.declared.client.Running.{Running}
 use Rattle.iot_bodies.specs.declared.client.Waiting.{Waiting}
+use Rattle.iot_bodies.specs.declared.running.TheConstants.{RUN_LIMIT}
 
 unfoldable pub server_at : Decoder ServerBody
 server_at = do
@@ -50,21 +51,20 @@ running_at = do
   number ← number_at
   script ← name_at
   option ← option_at
+  base ← tree_at
   acts ← acts_at
-  done (record { tid = number; script = script; option = option; acts = acts })
+  done (record { tid = number; script = script; option = option; base = base; acts = acts })
 
-unfoldable pub some_running_at : Decoder (Option Running)
-some_running_at = do
-  running ← running_at
-  done (Some running)
-
-unfoldable pub running_if_any_at : Decoder (Option Running)
-running_if_any_at = tagged ((0, done None) ∷ (1, some_running_at) ∷ [])
+-- those that run, not too many
+unfoldable pub runs_at : Decoder (List Running)
+runs_at = do
+  n ← at_most RUN_LIMIT
+  items_at (λ _. running_at) n None
 
 unfoldable pub client_at : Decoder ClientBody
 client_at = do
   held ← tree_at
   items ← list_at waiting_at
-  running ← running_if_any_at
+  running ← runs_at
   last ← number_at
   done (record { held = held; items = items; running = running; last = last })

@@ -1,10 +1,8 @@
 -- Which bodies of checkpoints have a spelling.
-use Rattle.std.specs.Prelude.{◌≡◌, ℕ, List, [], ◌∷◌, Option, Some, None}
+use Rattle.std.specs.Prelude.{◌≡◌, ◌≤◌, List, [], ◌∷◌, length}
 use Rattle.std.specs.List.{AllByRecursion}
 use Rattle.iot_text.specs.Names.{IsName}
 use Rattle.iot_tree.specs.declared.access.Access.{Access}
-use Rattle.iot_tree.specs.declared.acts.Act.{Act}
-use Rattle.iot_tree.specs.declared.labels.OnConflict.{OnConflict}
 use Rattle.iot_access.specs.Access.{no_access}
 use Rattle.iot_views.specs.Rules.{IsAccess, IsNumber, IsLabel, IsOption, IsBudget, AreActs, IsTreeOfRows}
 use Rattle.iot_queue.specs.declared.items.Item.{Item}
@@ -15,6 +13,7 @@ use Rattle.iot_bodies.specs.declared.server.ServerBody.{ServerBody}
 use Rattle.iot_bodies.specs.declared.client.ClientBody.{ClientBody}
 use Rattle.iot_bodies.specs.declared.client.Running.{Running}
 use Rattle.iot_bodies.specs.declared.client.Waiting.{Waiting}
+use Rattle.iot_bodies.specs.declared.running.TheConstants.{RUN_LIMIT}
 
 -- ---- a server's
 
@@ -41,29 +40,26 @@ pub record IsWaiting (it : Waiting) : Type 0 where
   pub option : IsOption it.item.option
   pub stage : IsStage it.item.stage it.access
 
--- the one that runs: not too many acts so far
+-- one that runs: not too many acts since it began on its base
 pub record IsRunning (it : Running) : Type 0 where
   pub number : IsNumber it.tid
   pub script : IsName it.script
   pub option : IsOption it.option
+  pub base : IsTreeOfRows it.base
   pub acts : AreActs it.acts
 
-abbrev pub IsRunningIfAny : Option Running → Type 0
-IsRunningIfAny None = Unit {0}
-IsRunningIfAny (Some it) = IsRunning it
+-- those that run: not too many
+pub record AreRunning (running : List Running) : Type 0 where
+  pub few : length running ≤ RUN_LIMIT
+  pub each : AllByRecursion IsRunning running
 
 pub record IsClientBody (body : ClientBody) : Type 0 where
   pub held : IsTreeOfRows body.held
   pub items : AllByRecursion IsWaiting body.items
-  pub running : IsRunningIfAny body.running
+  pub running : AreRunning body.running
   pub last : IsNumber body.last
 
 -- the transactions of a queue, of which only the first may have this access
 abbrev pub waiting_of : List Item → Access → List Waiting
 waiting_of [] access = []
 waiting_of (item ∷ items) access = record { item = item; access = access } ∷ waiting_of items no_access
-
--- the one that runs, by its number, its script and its option, with these acts
-abbrev pub running_with : Option (ℕ × List ℕ × OnConflict) → List Act → Option Running
-running_with None acts = None
-running_with (Some it) acts = Some (record { tid = it.0; script = it.1; option = it.2; acts = acts })

@@ -1,6 +1,9 @@
 -- The one spelling of each body of a checkpoint.
-use Rattle.std.specs.Prelude.{ℕ, List, [], ◌∷◌, ◌++◌, Option, Some, None}
+use Rattle.std.specs.Prelude.{ℕ, List, [], ◌∷◌, ◌++◌}
+use Rattle.iot_tree.specs.Tree.{Nodes}
 use Rattle.iot_tree.specs.declared.access.Access.{Access}
+use Rattle.iot_tree.specs.declared.acts.Act.{Act}
+use Rattle.iot_tree.specs.declared.labels.OnConflict.{OnConflict}
 use Rattle.iot_access.specs.Access.{no_access}
 use Rattle.iot_codec.specs.Spelling.{number_spelling, name_spelling, option_spelling, access_spelling, acts_spelling, tree_spelling}
 use Rattle.iot_codec.specs.Spelling.{label_spelling, list_spelling}
@@ -42,18 +45,19 @@ waiting_spelling it = order_spelling it.item ++ course_spelling it
 abbrev pub other_spelling : Item → List ℕ
 other_spelling item = waiting_spelling (record { item = item; access = no_access })
 
--- the one that runs
+-- one that runs: its number, its script and what is done if it conflicts, ..
+abbrev pub begun_spelling : ℕ → List ℕ → OnConflict → List ℕ
+begun_spelling tid script option = number_spelling tid ++ (name_spelling script ++ option_spelling option)
+
+-- .. and the tree on which it began, and what it did since
+abbrev pub done_spelling : Nodes → List Act → List ℕ
+done_spelling base acts = tree_spelling base ++ acts_spelling acts
+
 unfoldable pub running_spelling : Running → List ℕ
-running_spelling it =
-    number_spelling it.tid ++ (name_spelling it.script ++ (option_spelling it.option ++ acts_spelling it.acts))
+running_spelling it = begun_spelling it.tid it.script it.option ++ done_spelling it.base it.acts
 
--- 0 if none runs, or 1 and the one that does
-unfoldable pub running_if_any_spelling : Option Running → List ℕ
-running_if_any_spelling None = 0 ∷ []
-running_if_any_spelling (Some it) = 1 ∷ running_spelling it
-
--- the held tree, the transactions that wait, the one that runs, and the number of the last one
+-- the held tree, the transactions that wait, those that run, and the number of the last one
 unfoldable pub client_spelling : ClientBody → List ℕ
 client_spelling body =
     tree_spelling body.held
-    ++ (list_spelling waiting_spelling body.items ++ (running_if_any_spelling body.running ++ number_spelling body.last))
+    ++ (list_spelling waiting_spelling body.items ++ (list_spelling running_spelling body.running ++ number_spelling body.last))

@@ -1,18 +1,18 @@
 //! What a client keeps.
-ghost use Rattle.std.specs.Prelude.{◌≡◌, ◌++◌, OnOk, IfOk};
+ghost use Rattle.std.specs.Prelude.{◌≡◌, ◌++◌, map, OnOk, IfOk};
 ghost use Rattle.iot_codec.specs.Outcomes.{IsOutcome};
 ghost use Rattle.iot_wire.specs.Messages.{IsMessage, ReadsMessage, IsOneMessage, whole};
 ghost use Rattle.iot_bodies.specs.Decoding.{client_at};
-ghost use Rattle.iot_bodies.specs.Rules.{IsClientBody, running_with, waiting_of};
+ghost use Rattle.iot_bodies.specs.Rules.{IsClientBody, waiting_of};
 ghost use Rattle.iot_bodies.specs.Spelling.{client_spelling};
 
 use crate::parts::finished;
 use crate::queued::put_queue;
-use crate::running::{put_running_if_any, read_running_if_any};
+use crate::running::{Runs, put_runs, read_runs};
 use iot_codec::{CodecFault, Spelled, read_list};
 use iot_queue::Item;
 use iot_text::{Name, NoMemory, Text};
-use iot_tree::{Access, Act, Acts, OnConflict, Sequence, Tree};
+use iot_tree::{Access, Acts, OnConflict, Sequence, Tree};
 use std::alloc::Global;
 
 /// A transaction that waits, with what the run asked that was made in its place, if it is resolved; else with no access.
@@ -22,7 +22,7 @@ pub struct Waiting {
     pub access: Access,
 }
 
-/// The transaction that runs.
+/// A transaction that runs.
 #[derive(Drop)]
 pub struct Running {
     /// Its number at its client, from 1.
@@ -34,7 +34,10 @@ pub struct Running {
     /// What is done if it conflicts.
     pub option: OnConflict,
 
-    /// What it did so far.
+    /// The tree on which it began.
+    pub base: Tree,
+
+    /// What it did since.
     pub acts: Acts,
 }
 
@@ -46,39 +49,38 @@ pub struct ClientBody {
     /// Those that wait, in the order in which they ended.
     pub items: Sequence<Waiting>,
 
-    pub running: Option<Running>,
+    /// Those that run, by their numbers.
+    pub running: Sequence<Running>,
 
     /// The number of the last transaction, 0 before the first.
     pub last: u64,
 }
 
-/// Appends the spelling of a client's body: its held tree, the transactions that wait, the one that runs, and the number of the
-/// last one. `access` is that of the first one that waits, if it is resolved, or else that of nothing. `running` is the number, the
-/// script and the option of the one that runs, if one does, and `acts` what it did so far. It copies none of them.
+/// Appends the spelling of a client's body: its held tree, the transactions that wait, those that run, and the number of the last
+/// one. `access` is that of the first one that waits, if it is resolved, or else that of nothing. It copies none of them.
 ///
 /// # Errors
 ///
 /// `NoMemory` if there is none for the text. Nothing is said of the text then.
 #[tactic(auto, unfolding(crate::specs::Spelling::client_spelling))]
-pub fn put_client(
+pub fn put_client<R: Runs>(
     held: &Tree,
     items: &[Item],
     access: &Access,
-    running: Option<(u64, Name, OnConflict)>,
-    acts: &[Act],
+    running: &[R],
     last: u64,
     out: &mut Text,
 ) -> Result<(), NoMemory>
     ensures { OnOk result (out.new ≡ out.old ++ client_spelling (record {
       held = held.now;
       items = waiting_of items.now access.now;
-      running = running_with running acts.now;
+      running = map R.run running.now;
       last = last;
     })) }
 {
     held.put(out)?;
     put_queue(items, access, out)?;
-    put_running_if_any(running, acts, out)?;
+    put_runs(running, out)?;
     last.put(out)
 }
 
@@ -89,7 +91,7 @@ fn read_parts(alloc: Global, bytes: &[u8]) -> Result<(ClientBody, usize), CodecF
 {
     let (held, at) = Tree::read(alloc, bytes, 0)?;
     let (items, at) = read_list(alloc, bytes, at)?;
-    let (running, at) = read_running_if_any(alloc, bytes, at)?;
+    let (running, at) = read_runs(alloc, bytes, at)?;
     let (last, end) = u64::read(alloc, bytes, at)?;
     let body = ClientBody {
         held,

@@ -13,4 +13,5 @@ mod stages;
 mod waiting;
 
 pub use client::{ClientBody, Running, Waiting, put_client, read_client};
+pub use running::{RUN_LIMIT, Runs, put_running};
 pub use server::{ServerBody, put_server, read_server};

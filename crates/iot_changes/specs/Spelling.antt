@@ -5,7 +5,7 @@ use Rattle.iot_codec.specs.Spelling.{number_spelling, name_spelling, option_spel
 use Rattle.iot_codec.specs.Spelling.{access_spelling, acts_spelling, tree_spelling}
 use Rattle.iot_changes.specs.declared.changes.Change.{Change}
 use Rattle.iot_changes.specs.declared.changes.Change.TheVariants.{Held, Begun, Fetched, Acted, Ended, Cut, Conflicted, Resolved}
-use Rattle.iot_changes.specs.declared.changes.Change.TheVariants.{Repaired, Left}
+use Rattle.iot_changes.specs.declared.changes.Change.TheVariants.{Repaired, Left, Again}
 
 -- what was run: the script and the budget
 abbrev pub run_spelling : Resolution → List ℕ
@@ -22,11 +22,12 @@ resolution_spelling resolution = run_spelling resolution ++ outcome_spelling res
 unfoldable pub change_spelling : Change → List ℕ
 change_spelling (Held tree) = 1 ∷ tree_spelling tree
 change_spelling (Begun number script option) = 2 ∷ (number_spelling number ++ (name_spelling script ++ option_spelling option))
-change_spelling (Fetched tree) = 3 ∷ tree_spelling tree
-change_spelling (Acted act) = 4 ∷ act_spelling act
-change_spelling Ended = 5 ∷ []
-change_spelling Cut = 6 ∷ []
+change_spelling (Fetched number tree) = 3 ∷ (number_spelling number ++ tree_spelling tree)
+change_spelling (Acted number act) = 4 ∷ (number_spelling number ++ act_spelling act)
+change_spelling (Ended number) = 5 ∷ number_spelling number
+change_spelling (Cut number acts) = 6 ∷ (number_spelling number ++ number_spelling acts)
 change_spelling Conflicted = 7 ∷ []
 change_spelling (Resolved resolution access) = 8 ∷ (resolution_spelling resolution ++ access_spelling access)
 change_spelling (Repaired script) = 9 ∷ name_spelling script
 change_spelling Left = 10 ∷ []
+change_spelling (Again number) = 11 ∷ number_spelling number

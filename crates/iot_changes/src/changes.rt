@@ -17,14 +17,25 @@ pub enum Change {
         /// What is done if it conflicts.
         option: OnConflict,
     },
-    /// Objects were brought for the running transaction: this tree is held, and it starts again.
-    Fetched(Tree),
-    /// The running transaction did this act.
-    Acted(Act),
-    /// The running transaction ended, and waits now.
-    Ended,
-    /// The running transaction was cut off: it waits now, with as many acts as it has done.
-    Cut,
+    /// Objects were brought for the running transaction of this number: this tree is held, and it starts again on the view.
+    Fetched {
+        number: u64,
+        tree: Tree,
+    },
+    /// The running transaction of this number did this act.
+    Acted {
+        number: u64,
+        act: Act,
+    },
+    /// The running transaction of this number ended, and waits now.
+    Ended {
+        number: u64,
+    },
+    /// The first running transaction, of this number, was cut off: it waits now, with so many of its acts.
+    Cut {
+        number: u64,
+        acts: u64,
+    },
     /// The first transaction that waits conflicts: it is to be resolved, or to be decided by hand if that is its option.
     Conflicted,
     /// Another run was made in the place of the first transaction that waits, which asked this of the server's tree.
@@ -33,4 +44,8 @@ pub enum Change {
     Repaired(Name),
     /// The first transaction that waits was settled or given up.
     Left,
+    /// The running transaction of this number starts again on the view.
+    Again {
+        number: u64,
+    },
 }

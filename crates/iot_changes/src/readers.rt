@@ -1,7 +1,8 @@
 //! Reading changes.
 ghost use Rattle.std.specs.Prelude.{◌≡◌, IfOk, Ok};
 ghost use Rattle.iot_codec.specs.Outcomes.{IsOutcome};
-ghost use Rattle.iot_changes.specs.Decoding.{change_at, held_at, begun_at, fetched_at, acted_at, resolved_at, repaired_at};
+ghost use Rattle.iot_changes.specs.Decoding.{change_at, held_at, begun_at, fetched_at, acted_at, ended_at, cut_at};
+ghost use Rattle.iot_changes.specs.Decoding.{resolved_at, repaired_at, again_at};
 ghost use Rattle.iot_changes.specs.Rules.{IsChange};
 ghost use Rattle.iot_changes.specs.Spelling.{change_spelling};
 ghost use Rattle.iot_wire.specs.Messages.{IsMessage, ReadsMessage, IsOneMessage, whole};
@@ -44,8 +45,9 @@ fn read_begun(alloc: Global, bytes: &[u8], at: usize) -> Result<(Change, usize),
 fn read_fetched(alloc: Global, bytes: &[u8], at: usize) -> Result<(Change, usize), CodecFault>
     ensures { IsOutcome result (fetched_at bytes.now at) }
 {
+    let (number, at) = read_number(alloc, bytes, at)?;
     let (tree, end) = read_tree(alloc, bytes, at)?;
-    Ok((Change::Fetched(tree), end))
+    Ok((Change::Fetched { number, tree }, end))
 }
 
 /// Reads what follows the tag of an act.
@@ -53,8 +55,28 @@ fn read_fetched(alloc: Global, bytes: &[u8], at: usize) -> Result<(Change, usize
 fn read_acted(alloc: Global, bytes: &[u8], at: usize) -> Result<(Change, usize), CodecFault>
     ensures { IsOutcome result (acted_at bytes.now at) }
 {
+    let (number, at) = read_number(alloc, bytes, at)?;
     let (act, end) = read_act(alloc, bytes, at)?;
-    Ok((Change::Acted(act), end))
+    Ok((Change::Acted { number, act }, end))
+}
+
+/// Reads what follows the tag of an end.
+#[tactic(auto, unfolding(crate::specs::Decoding::ended_at))]
+fn read_ended(alloc: Global, bytes: &[u8], at: usize) -> Result<(Change, usize), CodecFault>
+    ensures { IsOutcome result (ended_at bytes.now at) }
+{
+    let (number, end) = read_number(alloc, bytes, at)?;
+    Ok((Change::Ended { number }, end))
+}
+
+/// Reads what follows the tag of a cut.
+#[tactic(auto, unfolding(crate::specs::Decoding::cut_at))]
+fn read_cut(alloc: Global, bytes: &[u8], at: usize) -> Result<(Change, usize), CodecFault>
+    ensures { IsOutcome result (cut_at bytes.now at) }
+{
+    let (number, at) = read_number(alloc, bytes, at)?;
+    let (acts, end) = read_number(alloc, bytes, at)?;
+    Ok((Change::Cut { number, acts }, end))
 }
 
 /// Reads what follows the tag of a resolution.
@@ -76,6 +98,15 @@ fn read_repaired(alloc: Global, bytes: &[u8], at: usize) -> Result<(Change, usiz
     Ok((Change::Repaired(script), end))
 }
 
+/// Reads what follows the tag of a transaction that starts again.
+#[tactic(auto, unfolding(crate::specs::Decoding::again_at))]
+fn read_again(alloc: Global, bytes: &[u8], at: usize) -> Result<(Change, usize), CodecFault>
+    ensures { IsOutcome result (again_at bytes.now at) }
+{
+    let (number, end) = read_number(alloc, bytes, at)?;
+    Ok((Change::Again { number }, end))
+}
+
 /// Reads a change, and gives the offset after it.
 #[tactic(auto, unfolding(crate::specs::Decoding::change_at))]
 fn read_tagged(alloc: Global, bytes: &[u8]) -> Result<(Change, usize), CodecFault>
@@ -86,12 +117,13 @@ fn read_tagged(alloc: Global, bytes: &[u8]) -> Result<(Change, usize), CodecFaul
         Some(2) => read_begun(alloc, bytes, 1),
         Some(3) => read_fetched(alloc, bytes, 1),
         Some(4) => read_acted(alloc, bytes, 1),
-        Some(5) => Ok((Change::Ended, 1)),
-        Some(6) => Ok((Change::Cut, 1)),
+        Some(5) => read_ended(alloc, bytes, 1),
+        Some(6) => read_cut(alloc, bytes, 1),
         Some(7) => Ok((Change::Conflicted, 1)),
         Some(8) => read_resolved(alloc, bytes, 1),
         Some(9) => read_repaired(alloc, bytes, 1),
         Some(10) => Ok((Change::Left, 1)),
+        Some(11) => read_again(alloc, bytes, 1),
         _ => Err(malformed(0)),
     }
 }

@@ -35,16 +35,25 @@ pub fn put_change(change: &Change, out: &mut Text) -> Result<(), NoMemory>
             put_name(script, out)?;
             put_option(option, out)
         }
-        Change::Fetched(tree) => {
+        Change::Fetched { number, tree } => {
             out.push(3)?;
+            put_number(number, out)?;
             put_tree(tree, out)
         }
-        Change::Acted(act) => {
+        Change::Acted { number, act } => {
             out.push(4)?;
+            put_number(number, out)?;
             put_act(act, out)
         }
-        Change::Ended => out.push(5),
-        Change::Cut => out.push(6),
+        Change::Ended { number } => {
+            out.push(5)?;
+            put_number(number, out)
+        }
+        Change::Cut { number, acts } => {
+            out.push(6)?;
+            put_number(number, out)?;
+            put_number(acts, out)
+        }
         Change::Conflicted => out.push(7),
         Change::Resolved(resolution, access) => {
             out.push(8)?;
@@ -56,6 +65,10 @@ pub fn put_change(change: &Change, out: &mut Text) -> Result<(), NoMemory>
             put_name(script, out)
         }
         Change::Left => out.push(10),
+        Change::Again { number } => {
+            out.push(11)?;
+            put_number(number, out)
+        }
     }
 }
 

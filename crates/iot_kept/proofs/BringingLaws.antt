@@ -12,7 +12,7 @@ use Rattle.iot_tree.specs.declared.changes.Changes.{Changes}
 use Rattle.iot_tree.specs.declared.nodes.Node.{Node}
 use Rattle.iot_tree.proofs.EachLaws.{each_entry}
 use Rattle.iot_tree.proofs.PathLaws.{tied}
-use Rattle.iot_views.specs.Rules.{IsRow, IsStampedNode, AreChanges, IsTreeOfRows}
+use Rattle.iot_views.specs.Rules.{IsNumber, IsRow, IsStampedNode, AreChanges, IsTreeOfRows}
 use Rattle.iot_text.specs.Paths.{IsPath}
 use Rattle.iot_stamp.specs.Refresh.{zeroed, joined, merged, stays}
 use Rattle.iot_stamp.specs.Stamps.{Entry, Stamps, nodes_of}
@@ -22,9 +22,12 @@ use Rattle.iot_changes.specs.Rules.{IsChange}
 use Rattle.iot_changes.specs.declared.changes.Change.{Change}
 use Rattle.iot_kept.specs.Bringing.{brought, brought_for, bringing}
 use Rattle.iot_kept.specs.Changes.{CanFollow, after}
+use Rattle.iot_kept.specs.Spelled.{IsSpelledState}
 use Rattle.iot_kept.specs.States.{State}
 use Rattle.iot_kept.specs.declared.bringing.Purpose.{Purpose}
 use Rattle.iot_kept.specs.declared.bringing.Purpose.TheVariants.{Hold, Fetch}
+use Rattle.iot_kept.proofs.SpelledLaws.{numbers_spelled}
+use Rattle.iot_kept.proofs.StatesLaws.{run_number}
 
 -- ---- entries whose rows have spellings
 
@@ -65,20 +68,32 @@ found p (e ∷ es) row all is = by (eq_by_cmp path_cmp p e.0) refl is (λ here. 
 
 -- ---- the change that brings a tree
 
-is_change : (purpose : Purpose) (t : Nodes) → IsTreeOfRows t → IsChange (brought_for purpose t)
-is_change Hold t rows = rows
-is_change Fetch t rows = rows
+-- what it is brought for has a number that has a spelling
+abbrev pub IsSpelledPurpose : Purpose → Type 0
+IsSpelledPurpose Hold = Unit {0}
+IsSpelledPurpose (Fetch number) = IsNumber number
+
+-- one that runs has
+pub purpose_spelled : (purpose : Purpose) (state : State) (t : Nodes) → IsSpelledState state → CanFollow state (brought_for purpose t)
+    → IsSpelledPurpose purpose
+purpose_spelled Hold state t spelled follows = tt
+purpose_spelled (Fetch number) state t spelled follows =
+    run_number IsNumber number state.running _ follows.0 (numbers_spelled state.running spelled.running)
+
+is_change : (purpose : Purpose) (t : Nodes) → IsSpelledPurpose purpose → IsTreeOfRows t → IsChange (brought_for purpose t)
+is_change Hold t is rows = rows
+is_change (Fetch number) t is rows = (is, rows)
 
 -- whether it can follow does not depend on the tree
 pub follows_with : (state : State) (purpose : Purpose) (t u : Nodes) → CanFollow state (brought_for purpose t)
     → CanFollow state (brought_for purpose u)
 follows_with state Hold t u follows = follows
-follows_with state Fetch t u follows = follows
+follows_with state (Fetch number) t u follows = follows
 
 -- the tree is held after it
 brought_held : (purpose : Purpose) (state : State) (t : Nodes) → (after state (brought_for purpose t)).held ≡ t
 brought_held Hold state t = refl
-brought_held Fetch state t = refl
+brought_held (Fetch number) state t = refl
 
 -- whatever change it is that brings it
 pub same_tree : (purpose : Purpose) (state now : State) (t u : Nodes) (change : Change) → t ≡ u → change ≡ brought_for purpose t
@@ -116,14 +131,17 @@ module _ (held : Stamps) (changes : Changes) (spelled : IsTreeOfRows (nodes_of h
   brought_spelled tree = record { tree = tree; each = each_entry (λ p node. IsRow (p, node)) (nodes_of (brought held changes)) node_at }
 
   -- the change that brings it has a spelling, ..
-  pub brings_spelled : (purpose : Purpose) → IsTree (nodes_of (brought held changes)) → IsChange (bringing purpose held changes)
-  brings_spelled purpose tree = is_change purpose (nodes_of (brought held changes)) (brought_spelled tree)
+  pub brings_spelled : (purpose : Purpose) → IsSpelledPurpose purpose → IsTree (nodes_of (brought held changes))
+      → IsChange (bringing purpose held changes)
+  brings_spelled purpose is tree = is_change purpose (nodes_of (brought held changes)) is (brought_spelled tree)
 
 -- .. also if it was merged into an equal tree
-pub change_spelled : (held stamps now : Stamps) (changes : Changes) (purpose : Purpose) (t : Nodes) (change : Change) → held ≡ stamps
-    → IsTreeOfRows (nodes_of stamps) → AreChanges changes → now ≡ brought held changes → IsTree (nodes_of now) → t ≡ nodes_of now
-    → change ≡ brought_for purpose t → IsChange change
-change_spelled held stamps now changes purpose t change same spelled are merged tree is made =
+pub change_spelled : (state : State) (held stamps now : Stamps) (changes : Changes) (purpose : Purpose) (t u : Nodes) (change : Change)
+    → held ≡ stamps → IsSpelledState state → CanFollow state (brought_for purpose u) → IsTreeOfRows (nodes_of stamps) → AreChanges changes
+    → now ≡ brought held changes → IsTree (nodes_of now) → t ≡ nodes_of now → change ≡ brought_for purpose t → IsChange change
+change_spelled state held stamps now changes purpose t u change same all follows spelled are merged tree is made =
     let rows = subst (λ (s : Stamps). IsTreeOfRows (nodes_of s)) (sym same) spelled in
     let outcome = subst (λ (s : Stamps). IsTree (nodes_of s)) merged tree in
-    subst IsChange (sym (made ∙ ap (brought_for purpose) (is ∙ ap nodes_of merged))) (brings_spelled held changes rows are purpose outcome)
+    let known = purpose_spelled purpose state u all follows in
+    subst IsChange (sym (made ∙ ap (brought_for purpose) (is ∙ ap nodes_of merged)))
+    (brings_spelled held changes rows are purpose known outcome)

@@ -1,16 +1,16 @@
 -- Changes leave what waits as it is, and a transaction that is cut is its prefix.
-use Rattle.std.proofs.Common.{◌≡◌, ◌≤◌, List, [], ◌∷◌, ◌++◌, length, Option, Some, None, refl, sym, ap, subst, arith}
+use Rattle.std.proofs.Common.{◌≡◌, ◌≤◌, ℕ, List, [], ◌∷◌, ◌++◌, length, take, Option, Some, None, refl, sym, ap, subst, arith}
 use Rattle.iot_tree.specs.Tree.{Nodes}
-use Rattle.iot_acts.specs.Traces.{ActsHold, after_acts}
 use Rattle.iot_tree.specs.declared.access.Access.{Access}
 use Rattle.iot_access.specs.Access.{no_access}
+use Rattle.iot_acts.specs.Traces.{ActsHold, after_acts}
 use Rattle.iot_queue.specs.Queues.{with_head, staged}
 use Rattle.iot_queue.specs.declared.items.Item.{Item}
 use Rattle.iot_queue.specs.declared.items.Stage.{Stage}
 use Rattle.iot_queue.specs.declared.items.Stage.TheVariants as stages
 use Rattle.iot_changes.specs.declared.changes.Change.TheVariants.{Held, Begun, Fetched, Acted, Ended, Cut, Conflicted, Resolved}
-use Rattle.iot_changes.specs.declared.changes.Change.TheVariants.{Repaired, Left}
-use Rattle.iot_kept.specs.States.{Transaction, State, EachHold, AllHold}
+use Rattle.iot_changes.specs.declared.changes.Change.TheVariants.{Repaired, Left, Again}
+use Rattle.iot_kept.specs.States.{Transaction, State, EachHold, AllHold, numbered}
 use Rattle.iot_kept.specs.Changes.{HeadIs, MayLeave, waiting, ended, cut, left, stage_by, stays_in, conflicted, repaired}
 use Rattle.iot_kept.specs.Continuing.{WaitsOn, EachWaitsOn, LaterWaitOn, Continues, all_wait_on, first_leaves}
 use Rattle.iot_kept.specs.Continuing.{PendingReadsStay, ACutIsItsPrefix}
@@ -58,13 +58,14 @@ head_waits change (item ∷ items) t keeps hold =
 none_waits : (items : List Item) (old new : Nodes) → items ≡ [] → EachWaitsOn old new items items
 none_waits items old new is = subst (λ (items : List Item). EachWaitsOn old new items items) (sym is) (omega arith)
 
-ended_one : (running : Option Transaction) → length (ended running) ≤ 1
+ended_one : (found : Option Transaction) → length (ended found) ≤ 1
 ended_one None = omega arith
-ended_one (Some running) = omega arith
+ended_one (Some it) = omega arith
 
-cut_one : (running : Option Transaction) → length (cut running) ≤ 1
-cut_one None = omega arith
-cut_one (Some running) = omega arith
+cut_continues : (acts : ℕ) (running : List Transaction) (state : State) → AllHold state → Continues state (cut acts running state)
+cut_continues acts [] state hold = all_wait_on (same_wait state.items state.held hold.items)
+cut_continues acts (it ∷ running) state hold =
+    all_wait_on (more_wait state.items (waiting acts (take acts it.acts) it ∷ []) state.held (omega arith) hold.items)
 
 changed_continues : (change : Item → Item) (access : Access) (state : State) → KeepsRun change → AllHold state
     → Continues state (changed change access state)
@@ -91,14 +92,15 @@ conflicted_continues (item ∷ items) state some hold = stays_continues (stage_b
 
 -- no pending transaction's reads change while it waits
 pub pending_reads_stay : PendingReadsStay
-pending_reads_stay state (Held tree) follows hold = all_wait_on (none_waits state.items state.held tree follows.1)
+pending_reads_stay state (Held tree) follows hold = all_wait_on (none_waits state.items state.held tree follows)
 pending_reads_stay state (Begun number script option) follows hold = all_wait_on (same_wait state.items state.held hold.items)
-pending_reads_stay state (Fetched tree) follows hold = all_wait_on (none_waits state.items state.held tree follows.1)
-pending_reads_stay state (Acted act) follows hold = all_wait_on (same_wait state.items state.held hold.items)
-pending_reads_stay state Ended follows hold =
-    all_wait_on (more_wait state.items (ended state.running) state.held (ended_one state.running) hold.items)
-pending_reads_stay state Cut follows hold =
-    all_wait_on (more_wait state.items (cut state.running) state.held (cut_one state.running) hold.items)
+pending_reads_stay state (Fetched number tree) follows hold = all_wait_on (none_waits state.items state.held tree follows.1)
+pending_reads_stay state (Acted number act) follows hold = all_wait_on (same_wait state.items state.held hold.items)
+pending_reads_stay state (Ended number) follows hold =
+    all_wait_on (more_wait state.items (ended (numbered number state.running)) state.held (ended_one (numbered number state.running))
+    hold.items)
+pending_reads_stay state (Cut number acts) follows hold = cut_continues acts state.running state hold
+pending_reads_stay state (Again number) follows hold = all_wait_on (same_wait state.items state.held hold.items)
 pending_reads_stay state Conflicted follows hold =
     conflicted_continues state.items state (submitted_may_leave state.items follows) hold
 pending_reads_stay state (Resolved done access) follows hold =
@@ -111,11 +113,11 @@ pending_reads_stay state Left follows hold = left_continues state follows hold
 
 -- a transaction that was cut is its prefix
 pub a_cut_is_its_prefix : ACutIsItsPrefix
-a_cut_is_its_prefix state running is = record {
-  item = waiting (length running.acts) running;
+a_cut_is_its_prefix state it running acts is = record {
+  item = waiting acts (take acts it.acts) it;
   prefix = record { number = refl; script = refl; option = refl; acts = refl; budget = refl; stage = refl };
-  items = ap (λ running. state.items ++ cut running) is;
-  none_runs = refl;
-  held = refl;
-  last = refl;
+  items = ap (λ running. (cut acts running state).items) is;
+  run = ap (λ running. (cut acts running state).running) is;
+  held = ap (λ running. (cut acts running state).held) is;
+  last = ap (λ running. (cut acts running state).last) is;
 }

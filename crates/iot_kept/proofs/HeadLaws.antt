@@ -1,5 +1,5 @@
 -- Only the first transaction that waits may be in another stage than Waiting; changes keep that.
-use Rattle.std.proofs.Common.{◌≡◌, ℕ, List, [], ◌∷◌, ◌++◌, Option, Some, None, refl, sym, subst}
+use Rattle.std.proofs.Common.{◌≡◌, ℕ, List, [], ◌∷◌, ◌++◌, Option, Some, None, take, refl, sym, subst}
 use Rattle.iot_tree.specs.declared.access.Access.{Access}
 use Rattle.iot_tree.specs.declared.labels.OnConflict.{OnConflict}
 use Rattle.iot_tree.specs.declared.labels.OnConflict.TheVariants as options
@@ -13,22 +13,18 @@ use Rattle.iot_queue.specs.declared.items.Stage.TheVariants as stages
 use Rattle.iot_changes.specs.Rules.{IsChange, IsResolution}
 use Rattle.iot_changes.specs.declared.changes.Change.{Change}
 use Rattle.iot_changes.specs.declared.changes.Change.TheVariants.{Held, Begun, Fetched, Acted, Ended, Cut, Conflicted, Resolved}
-use Rattle.iot_changes.specs.declared.changes.Change.TheVariants.{Repaired, Left}
+use Rattle.iot_changes.specs.declared.changes.Change.TheVariants.{Repaired, Left, Again}
 use Rattle.iot_bodies.specs.Rules.{IsStage}
 use Rattle.iot_kept.specs.Bodies.{Allows, HeadStands}
-use Rattle.iot_kept.specs.Changes.{CanFollow, HeadIs, IsInConflict, ended, cut, left, stage_by, stays_in, conflicted, repaired, after}
+use Rattle.iot_kept.specs.Changes.{CanFollow, HeadIs, IsInConflict, waiting, ended, cut, left, stage_by, stays_in, conflicted, repaired, after}
 use Rattle.iot_kept.specs.Reading.{AllWait}
-use Rattle.iot_kept.specs.States.{Transaction, State}
+use Rattle.iot_kept.specs.States.{Transaction, State, numbered}
 
 -- ---- one more
 
-ended_waits : (running : Option Transaction) → AllWait (ended running)
+ended_waits : (found : Option Transaction) → AllWait (ended found)
 ended_waits None = tt
 ended_waits (Some it) = (refl, tt)
-
-cut_waits : (running : Option Transaction) → AllWait (cut running)
-cut_waits None = tt
-cut_waits (Some it) = (refl, tt)
 
 all_joined : (items joined : List Item) → AllWait items → AllWait joined → AllWait (items ++ joined)
 all_joined [] joined all more = more
@@ -46,6 +42,12 @@ waits_stand (item ∷ items) access all none = (
 joined_stand : (items joined : List Item) (access : Access) → HeadStands items access → AllWait joined → HeadStands (items ++ joined) access
 joined_stand [] joined access head more = waits_stand joined access more head
 joined_stand (item ∷ items) joined access head more = (head.0, head.1, all_joined items joined head.2 more)
+
+cut_stands : (acts : ℕ) (running : List Transaction) (state : State) → HeadStands state.items state.access
+    → HeadStands (cut acts running state).items (cut acts running state).access
+cut_stands acts [] state head = head
+cut_stands acts (it ∷ running) state head =
+    joined_stand state.items (waiting acts (take acts it.acts) it ∷ []) state.access head (refl, tt)
 
 -- ---- the head
 
@@ -106,10 +108,12 @@ pub keeps_head : (state : State) (change : Change) → IsChange change → CanFo
     → HeadStands (after state change).items (after state change).access
 keeps_head state (Held tree) is follows head = head
 keeps_head state (Begun number script option) is follows head = head
-keeps_head state (Fetched tree) is follows head = head
-keeps_head state (Acted act) is follows head = head
-keeps_head state Ended is follows head = joined_stand state.items (ended state.running) state.access head (ended_waits state.running)
-keeps_head state Cut is follows head = joined_stand state.items (cut state.running) state.access head (cut_waits state.running)
+keeps_head state (Fetched number tree) is follows head = head
+keeps_head state (Acted number act) is follows head = head
+keeps_head state (Ended number) is follows head =
+    joined_stand state.items (ended (numbered number state.running)) state.access head (ended_waits (numbered number state.running))
+keeps_head state (Cut number acts) is follows head = cut_stands acts state.running state head
+keeps_head state (Again number) is follows head = head
 keeps_head state Conflicted is follows head = conflicted_stands state.items state refl head
 keeps_head state (Resolved done access) is follows head = resolved_stands done state.access access state.items follows is.0 is.1 head
 keeps_head state (Repaired script) is follows head = repaired_stands script state.access state.items head

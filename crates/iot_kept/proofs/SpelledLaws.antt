@@ -1,6 +1,7 @@
 -- Changes that have spellings keep that all parts of a state have them.
-use Rattle.std.proofs.Common.{◌≡◌, ℕ, ◌<◌, List, [], ◌∷◌, ◌++◌, length, Option, Some, None}
+use Rattle.std.proofs.Common.{◌≡◌, ◌≤◌, ℕ, zero, suc, ◌<◌, List, [], ◌∷◌, ◌++◌, length, take, Option, Some, None}
 use Rattle.std.proofs.Common.{refl, sym, subst, arith, lit<, length-append}
+use Rattle.std.proofs.lemmas.List.{length-take-le}
 use Rattle.std.specs.List.{AllByRecursion}
 use Rattle.iot_text.specs.Names.{IsName}
 use Rattle.iot_tree.specs.Tree.{Nodes, root_alone}
@@ -13,7 +14,7 @@ use Rattle.iot_tree.specs.declared.nodes.Node.TheVariants.{FarDir}
 use Rattle.iot_tree.specs.declared.updates.Update.{Update}
 use Rattle.iot_access.specs.Access.{no_access}
 use Rattle.iot_acts.specs.Traces.{ActsHold, FitsIfAny, after_update, after_acts}
-use Rattle.iot_views.specs.Rules.{IsAccess, IsOptionalUpdate, IsAct, AreActs, IsTreeOfRows, IsBudget}
+use Rattle.iot_views.specs.Rules.{IsAccess, IsNumber, IsOptionalUpdate, IsAct, AreActs, IsTreeOfRows, IsBudget}
 use Rattle.iot_queue.specs.Queues.{with_head, staged}
 use Rattle.iot_queue.specs.declared.items.Item.{Item}
 use Rattle.iot_queue.specs.declared.items.Stage.{Stage}
@@ -22,11 +23,13 @@ use Rattle.iot_bodies.proofs.TreesLaws.{root_of_rows, rows_updated}
 use Rattle.iot_changes.specs.Rules.{IsChange}
 use Rattle.iot_changes.specs.declared.changes.Change.{Change}
 use Rattle.iot_changes.specs.declared.changes.Change.TheVariants.{Held, Begun, Fetched, Acted, Ended, Cut, Conflicted, Resolved}
-use Rattle.iot_changes.specs.declared.changes.Change.TheVariants.{Repaired, Left}
-use Rattle.iot_kept.specs.States.{Transaction, State, opening, acts_of, EachHold, AllHold}
-use Rattle.iot_kept.specs.Changes.{CanFollow, with_acts, waiting, ended, cut, left, stage_by, stays_in, conflicted, repaired, after}
-use Rattle.iot_kept.specs.Spelled.{IsSpelledStage, IsSpelledItem, AreSpelledItems, IsSpelledRunning, IsSpelledIfAny, IsSpelledState}
-use Rattle.iot_kept.proofs.StatesLaws.{changed}
+use Rattle.iot_changes.specs.declared.changes.Change.TheVariants.{Repaired, Left, Again}
+use Rattle.iot_certify.specs.Verdicts.{IsLongest}
+use Rattle.iot_kept.specs.States.{Transaction, State, opening, numbered, EachHold, AllHold, view, after_each}
+use Rattle.iot_kept.specs.Changes.{CanFollow, FirstRunIs, CanAct, anew, with_act, waiting, ended, cut, left, stage_by, stays_in}
+use Rattle.iot_kept.specs.Changes.{conflicted, repaired, after}
+use Rattle.iot_kept.specs.Spelled.{IsSpelledStage, IsSpelledItem, AreSpelledItems, IsSpelledRunning, AreSpelledRunning, IsSpelledState}
+use Rattle.iot_kept.proofs.StatesLaws.{changed, run_push, run_others, run_changed, run_found}
 
 -- ---- trees whose rows have spellings
 
@@ -55,7 +58,7 @@ module _ {X : Type 0} (P : X → Type 0) where
   all_joined [] more all rest = rest
   all_joined (x ∷ xs) more all rest = (all.0, all_joined xs more all.1 rest)
 
--- ---- the running transaction
+-- ---- those that run
 
 no_acts : AreActs []
 no_acts = record { few = omega arith; each = tt }
@@ -66,37 +69,79 @@ more_acts acts act less are is = record {
   each = all_joined IsAct acts (act ∷ []) are.each (is, tt);
 }
 
-again_spelled : (running : Option Transaction) → IsSpelledIfAny running → IsSpelledIfAny (with_acts (λ acts. []) running)
-again_spelled None is = tt
-again_spelled (Some running) is = record { number = is.number; script = is.script; option = is.option; acts = no_acts }
+again_spelled : (t : Nodes) (it : Transaction) → IsTreeOfRows t → IsSpelledRunning it → IsSpelledRunning (anew t it)
+again_spelled t it tree is = record { number = is.number; script = is.script; option = is.option; base = tree; acts = no_acts }
 
-acted_spelled : (running : Option Transaction) (act : Act) → length (acts_of running) < ACT_LIMIT → IsAct act → IsSpelledIfAny running
-    → IsSpelledIfAny (with_acts (λ acts. acts ++ act ∷ []) running)
-acted_spelled None act less is spelled = tt
-acted_spelled (Some running) act less is spelled = record {
+acted_spelled : (act : Act) (it : Transaction) → length it.acts < ACT_LIMIT → IsAct act → IsSpelledRunning it
+    → IsSpelledRunning (with_act act it)
+acted_spelled act it less is spelled = record {
   number = spelled.number;
   script = spelled.script;
   option = spelled.option;
-  acts = more_acts running.acts act less spelled.acts is;
+  base = spelled.base;
+  acts = more_acts it.acts act less spelled.acts is;
 }
 
-waits_spelled : (budget : ℕ) (running : Transaction) → IsBudget budget → IsSpelledRunning running → IsSpelledItem (waiting budget running)
-waits_spelled budget running few is = record {
+take_acts : (n : ℕ) (acts : List Act) → AllByRecursion IsAct acts → AllByRecursion IsAct (take n acts)
+take_acts zero acts all = tt
+take_acts (suc n) [] all = tt
+take_acts (suc n) (act ∷ acts) all = (all.0, take_acts n acts all.1)
+
+first_acts : (n : ℕ) (acts : List Act) → n ≤ length acts → AreActs acts → AreActs (take n acts)
+first_acts n acts few are = record {
+  few = omega (arith, length-take-le n acts few, few, are.few);
+  each = take_acts n acts are.each;
+}
+
+waits_spelled : (budget : ℕ) (acts : List Act) (it : Transaction) → IsBudget budget → AreActs acts → IsSpelledRunning it
+    → IsSpelledItem (waiting budget acts it)
+waits_spelled budget acts it few are is = record {
   number = is.number;
   script = is.script;
   budget = few;
-  acts = is.acts;
+  acts = are;
   option = is.option;
   stage = tt;
 }
 
-ended_spelled : (running : Option Transaction) → IsSpelledIfAny running → AreSpelledItems (ended running)
-ended_spelled None is = tt
-ended_spelled (Some running) is = (waits_spelled ACT_LIMIT running (omega arith) is, tt)
+-- so have their numbers
+pub numbers_spelled : (running : List Transaction) → AreSpelledRunning running
+    → AllByRecursion (λ (it : Transaction). IsNumber it.number) running
+numbers_spelled [] are = tt
+numbers_spelled (it ∷ running) are = let is : IsSpelledRunning it = are.0 in (is.number, numbers_spelled running are.1)
 
-cut_spelled : (running : Option Transaction) → IsSpelledIfAny running → AreSpelledItems (cut running)
-cut_spelled None is = tt
-cut_spelled (Some running) is = (waits_spelled (length running.acts) running is.acts.few is, tt)
+ended_spelled : (number : ℕ) (running : List Transaction) (found : Option Transaction) → numbered number running ≡ found
+    → AreSpelledRunning running → AreSpelledItems (ended found)
+ended_spelled number running None is all = tt
+ended_spelled number running (Some it) is all =
+    let this : IsSpelledRunning it = run_found IsSpelledRunning number running it is all in
+    (waits_spelled ACT_LIMIT it.acts it (omega arith) this.acts this, tt)
+
+cut_spelled : (number acts : ℕ) (running : List Transaction) (state : State) → running ≡ state.running
+    → FirstRunIs number (λ it. IsLongest (view state) it.acts acts) running → IsSpelledState state → IsSpelledState (cut acts running state)
+cut_spelled number acts [] state same is spelled = spelled
+cut_spelled number acts (it ∷ running) state same is spelled =
+    let all : AreSpelledRunning (it ∷ running) = subst AreSpelledRunning (sym same) spelled.running in
+    let this : IsSpelledRunning it = all.0 in
+    let few : acts ≤ length it.acts = is.1.few in
+    record {
+      held = spelled.held;
+      items = all_joined IsSpelledItem state.items (waiting acts (take acts it.acts) it ∷ []) spelled.items
+          (waits_spelled acts (take acts it.acts) it (omega (arith, few, this.acts.few)) (first_acts acts it.acts few this.acts) this, tt);
+      running = all.1;
+      last = spelled.last;
+      access = spelled.access;
+    }
+
+-- the view has a spelling
+each_rows : (t : Nodes) (items : List Item) → AreSpelledItems items → EachHold t items → IsTreeOfRows t → IsTreeOfRows (after_each t items)
+each_rows t [] are hold rows = rows
+each_rows t (item ∷ items) are hold rows =
+    let this : IsSpelledItem item = are.0 in
+    each_rows (after_acts t item.acts) items are.1 hold.1 (rows_after_acts t item.acts this.acts.each hold.0 rows)
+
+pub view_rows : (state : State) → IsSpelledState state → AllHold state → IsTreeOfRows (view state)
+view_rows state spelled hold = each_rows state.held state.items spelled.items hold.items spelled.held
 
 -- ---- the head
 
@@ -182,35 +227,43 @@ keeps_spelled state (Held tree) is follows hold spelled = record {
 keeps_spelled state (Begun number script option) is follows hold spelled = record {
   held = spelled.held;
   items = spelled.items;
-  running = record { number = is.0; script = is.1.0; option = is.1.1; acts = no_acts };
+  running = run_push IsSpelledRunning state.running _
+      (record { number = is.0; script = is.1.0; option = is.1.1; base = view_rows state spelled hold; acts = no_acts }) spelled.running;
   last = is.0;
   access = spelled.access;
 }
-keeps_spelled state (Fetched tree) is follows hold spelled = record {
-  held = is;
+keeps_spelled state (Fetched number tree) is follows hold spelled = record {
+  held = is.1;
   items = spelled.items;
-  running = again_spelled state.running spelled.running;
+  running = run_changed IsSpelledRunning number _ _ state.running
+      (λ it here own. again_spelled (after_each tree state.items) it
+      (subst (λ (items : List Item). IsTreeOfRows (after_each tree items)) (sym follows.1) is.1) own)
+      follows.0 spelled.running;
   last = spelled.last;
   access = spelled.access;
 }
-keeps_spelled state (Acted act) is follows hold spelled = record {
+keeps_spelled state (Acted number act) is follows hold spelled = record {
   held = spelled.held;
   items = spelled.items;
-  running = acted_spelled state.running act follows.1 is spelled.running;
+  running = run_changed IsSpelledRunning number (CanAct act) (with_act act) state.running
+      (λ it can own. acted_spelled act it can.0 is.1 own) follows spelled.running;
   last = spelled.last;
   access = spelled.access;
 }
-keeps_spelled state Ended is follows hold spelled = record {
+keeps_spelled state (Ended number) is follows hold spelled = record {
   held = spelled.held;
-  items = all_joined IsSpelledItem state.items (ended state.running) spelled.items (ended_spelled state.running spelled.running);
-  running = tt;
+  items = all_joined IsSpelledItem state.items (ended (numbered number state.running)) spelled.items
+      (ended_spelled number state.running (numbered number state.running) refl spelled.running);
+  running = run_others IsSpelledRunning number state.running spelled.running;
   last = spelled.last;
   access = spelled.access;
 }
-keeps_spelled state Cut is follows hold spelled = record {
+keeps_spelled state (Cut number acts) is follows hold spelled = cut_spelled number acts state.running state refl follows spelled
+keeps_spelled state (Again number) is follows hold spelled = record {
   held = spelled.held;
-  items = all_joined IsSpelledItem state.items (cut state.running) spelled.items (cut_spelled state.running spelled.running);
-  running = tt;
+  items = spelled.items;
+  running = run_changed IsSpelledRunning number _ _ state.running
+      (λ it here own. again_spelled (view state) it (view_rows state spelled hold) own) follows spelled.running;
   last = spelled.last;
   access = spelled.access;
 }

@@ -16,9 +16,9 @@ use Rattle.iot_stamp.specs.Stamps.{Stamps, nodes_of, stamp_at, stamp_in, stamped
 use Rattle.iot_stamp.proofs.StampsLaws.{nodes_with, get_with}
 use Rattle.iot_changes.specs.declared.changes.Change.{Change}
 use Rattle.iot_changes.specs.declared.changes.Change.TheVariants.{Held, Begun, Fetched, Acted, Ended, Cut, Conflicted, Resolved}
-use Rattle.iot_changes.specs.declared.changes.Change.TheVariants.{Repaired, Left}
-use Rattle.iot_kept.specs.States.{State}
-use Rattle.iot_kept.specs.Changes.{left, stage_by, stays_in, conflicted, after}
+use Rattle.iot_changes.specs.declared.changes.Change.TheVariants.{Repaired, Left, Again}
+use Rattle.iot_kept.specs.States.{Transaction, State}
+use Rattle.iot_kept.specs.Changes.{cut, left, stage_by, stays_in, conflicted, after}
 use Rattle.iot_kept.specs.Stamps.{stamps_left, stamps_staying, stamps_conflicted, restamped}
 
 none_at : (t : Nodes) (p : Path) → stamp_at (unstamped t) p ≡ 0
@@ -57,10 +57,15 @@ pub zero_change : (state : State) (change : Change)
     → restamped state.items (unstamped state.held) change ≡ unstamped (after state change).held
 zero_change state (Held tree) = refl
 zero_change state (Begun number script option) = refl
-zero_change state (Fetched tree) = refl
-zero_change state (Acted act) = refl
-zero_change state Ended = refl
-zero_change state Cut = refl
+zero_change state (Fetched number tree) = refl
+zero_change state (Acted number act) = refl
+zero_change state (Ended number) = refl
+zero_change state (Cut number acts) = by state.running
+  where
+    by : (running : List Transaction) → unstamped state.held ≡ unstamped (cut acts running state).held
+    by [] = refl
+    by (it ∷ running) = refl
+zero_change state (Again number) = refl
 zero_change state Conflicted = by state.items refl
   where
     in_stage : (stage : Option Stage) (item : Item) (items : List Item) → state.items ≡ item ∷ items

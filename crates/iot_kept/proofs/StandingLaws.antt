@@ -5,18 +5,13 @@ use Rattle.iot_changes.specs.Rules.{IsChange}
 use Rattle.iot_changes.specs.Spelling.{change_spelling}
 use Rattle.iot_changes.specs.declared.changes.Change.{Change}
 use Rattle.iot_slots.specs.declared.version.Version.{Version}
-use Rattle.iot_slots.specs.declared.version.Version.TheVariants.{One, Two}
-use Rattle.iot_versions.specs.Versions.{ReadsAs, SpellsChange}
-use Rattle.iot_versions.proofs.OneLaws.{change_one}
+use Rattle.iot_slots.specs.declared.version.Version.TheVariants.{Two}
+use Rattle.iot_kept.specs.Versions.{ReadsAs, SpellsChange}
+use Rattle.iot_kept.proofs.VersionsLaws.{change_has, change_one}
 
 -- the spelling of a change is its record
 pub is_record : (change : Change) (body : List ℕ) → IsChange change → body ≡ change_spelling change → SpellsChange Two body change
 is_record change body has spelled = record { value = has; spelled = sym spelled }
-
--- a change that is spelled has a spelling
-change_has : (version : Version) (body : List ℕ) (change : Change) → SpellsChange version body change → IsChange change
-change_has One body change is = is.value.0
-change_has Two body change is = is.value
 
 module _ {E : Type 0} (version : Version) (body : List ℕ) where
   -- what was read is the change that is spelled

@@ -1,12 +1,13 @@
 -- Acts that suit a tree in turn, and acts that hold in turn and are guarded.
 use Rattle.std.proofs.Common.{List, [], ◌∷◌}
+use Rattle.std.specs.List.{AllByRecursion}
 use Rattle.iot_tree.specs.Tree.{Nodes}
 use Rattle.iot_tree.specs.declared.acts.Act.{Act}
 use Rattle.iot_acts.specs.Guards.{AllGuarded}
 use Rattle.iot_acts.specs.Traces.{ActsHold, after_update, after_acts}
 use Rattle.iot_queue.specs.declared.items.Item.{Item}
-use Rattle.iot_kept.specs.Reading.{ActsSuit, EachSuit, AllSuit}
-use Rattle.iot_kept.specs.States.{State, acts_of, after_items, EachHold, EachGuarded, AllHold, AreGuarded}
+use Rattle.iot_kept.specs.Reading.{ActsSuit, EachSuit, SuitOwn, AllSuit}
+use Rattle.iot_kept.specs.States.{Transaction, State, EachHold, HoldsOwn, EachGuarded, IsGuardedOwn, AllHold, AreGuarded}
 
 suit_hold : (acts : List Act) (t : Nodes) → ActsSuit acts t → ActsHold t acts
 suit_hold [] t suit = tt
@@ -36,22 +37,37 @@ each_suit [] t hold guarded = tt
 each_suit (item ∷ items) t hold guarded =
     (hold_suit item.acts t hold.0 guarded.0, each_suit items (after_acts t item.acts) hold.1 guarded.1)
 
+-- ---- of those that run
+
+own_hold : (running : List Transaction) → AllByRecursion SuitOwn running → AllByRecursion HoldsOwn running
+own_hold [] suit = tt
+own_hold (it ∷ running) suit = (suit_hold it.acts it.base suit.0, own_hold running suit.1)
+
+own_guarded : (running : List Transaction) → AllByRecursion SuitOwn running → AllByRecursion IsGuardedOwn running
+own_guarded [] suit = tt
+own_guarded (it ∷ running) suit = (suit_guarded it.acts it.base suit.0, own_guarded running suit.1)
+
+own_suit : (running : List Transaction) → AllByRecursion HoldsOwn running → AllByRecursion IsGuardedOwn running
+    → AllByRecursion SuitOwn running
+own_suit [] hold guarded = tt
+own_suit (it ∷ running) hold guarded = (hold_suit it.acts it.base hold.0 guarded.0, own_suit running hold.1 guarded.1)
+
 -- ---- of all
 
 pub all_hold : (state : State) → AllSuit state → AllHold state
 all_hold state suit = record {
   items = each_hold state.items state.held suit.items;
-  running = suit_hold (acts_of state.running) (after_items state) suit.running;
+  running = own_hold state.running suit.running;
 }
 
 pub all_guarded : (state : State) → AllSuit state → AreGuarded state
 all_guarded state suit = record {
   items = each_guarded state.items state.held suit.items;
-  running = suit_guarded (acts_of state.running) (after_items state) suit.running;
+  running = own_guarded state.running suit.running;
 }
 
 pub all_suit : (state : State) → AllHold state → AreGuarded state → AllSuit state
 all_suit state hold guarded = record {
   items = each_suit state.items state.held hold.items guarded.items;
-  running = hold_suit (acts_of state.running) (after_items state) hold.running guarded.running;
+  running = own_suit state.running hold.running guarded.running;
 }

@@ -6,7 +6,7 @@ use Rattle.iot_queue.specs.declared.items.Item.{Item}
 use Rattle.iot_queue.specs.declared.items.Stage.{Stage}
 use Rattle.iot_changes.specs.declared.changes.Change.{Change}
 use Rattle.iot_changes.specs.declared.changes.Change.TheVariants.{Held, Begun, Fetched, Acted, Ended, Cut, Conflicted, Resolved, Repaired}
-use Rattle.iot_changes.specs.declared.changes.Change.TheVariants.{Left}
+use Rattle.iot_changes.specs.declared.changes.Change.TheVariants.{Left, Again}
 use Rattle.iot_kept.specs.Changes.{stage_by}
 use Rattle.iot_kept.specs.Stamps.{StampsBy, stamps_left, stamps_staying, stamps_conflicted}
 use Rattle.iot_kept.specs.States.{EachHold}
@@ -20,17 +20,18 @@ head_leaves (item ∷ items) held hold = own_acts held item.acts (holds_fit (nod
 -- a change that brings no tree
 abbrev pub IsOwn : Change → Type 0
 IsOwn (Held tree) = ⊥
-IsOwn (Fetched tree) = ⊥
+IsOwn (Fetched number tree) = ⊥
 IsOwn other = Unit {0}
 
 pub own_change : (change : Change) (items : List Item) (old new : Stamps) → IsOwn change → EachHold (nodes_of old) items
     → StampsBy change items old new → KeepsTrail old new
 own_change (Held tree) items old new own hold is = absurd own
 own_change (Begun number script option) items old new own hold is = same_stamps old new is
-own_change (Fetched tree) items old new own hold is = absurd own
-own_change (Acted act) items old new own hold is = same_stamps old new is
-own_change Ended items old new own hold is = same_stamps old new is
-own_change Cut items old new own hold is = same_stamps old new is
+own_change (Fetched number tree) items old new own hold is = absurd own
+own_change (Acted number act) items old new own hold is = same_stamps old new is
+own_change (Ended number) items old new own hold is = same_stamps old new is
+own_change (Cut number acts) items old new own hold is = same_stamps old new is
+own_change (Again number) items old new own hold is = same_stamps old new is
 own_change Conflicted items old new own hold is = subst (KeepsTrail old) (sym is) (by items hold)
   where
     in_stage : (stage : Option Stage) (items : List Item) → EachHold (nodes_of old) items → KeepsTrail old (stamps_staying stage old items)

@@ -1,5 +1,5 @@
 -- The whole of what is durable of a client, as the body of a checkpoint.
-use Rattle.std.specs.Prelude.{◌≡◌, ◌≤◌, ◌<◌, ℕ, List, [], ◌∷◌, ◌++◌, map, Option, Some, None, option_map, option_to_list}
+use Rattle.std.specs.Prelude.{◌≡◌, ◌≢◌, ◌≤◌, ◌<◌, ℕ, List, [], ◌∷◌, ◌++◌, length, map, Some}
 use Rattle.std.specs.List.{AllByRecursion}
 use Rattle.iot_access.specs.Access.{no_access}
 use Rattle.iot_tree.specs.declared.access.Access.{Access}
@@ -10,23 +10,44 @@ use Rattle.iot_queue.specs.declared.items.Stage.TheVariants as stages
 use Rattle.iot_bodies.specs.Rules.{IsStage, waiting_of}
 use Rattle.iot_bodies.specs.declared.client.ClientBody.{ClientBody}
 use Rattle.iot_bodies.specs.declared.client.Running.{Running}
+use Rattle.iot_bodies.specs.declared.running.TheConstants.{RUN_LIMIT}
 use Rattle.iot_slots.specs.declared.version.Version.{Version}
-use Rattle.iot_versions.specs.Versions.{SpellsClient}
 use Rattle.iot_kept.specs.Changes.{stage_by}
 use Rattle.iot_kept.specs.Spelled.{IsSpelledState}
 use Rattle.iot_kept.specs.States.{Transaction, State, AllHold, AreGuarded}
+use Rattle.iot_kept.specs.Versions.{SpellsClient}
 
 -- ---- which states a client may have
 
--- the numbers of the transactions that wait, and of the one that runs
-abbrev pub numbers_of : State → List ℕ
-numbers_of state =
-    map (λ (item : Item). item.tid) state.items ++ option_to_list (option_map (λ (it : Transaction). it.number) state.running)
+-- the numbers of the transactions that wait, and of those that run
+abbrev pub tids : List Item → List ℕ
+tids items = map (λ (item : Item). item.tid) items
+
+abbrev pub run_numbers : List Transaction → List ℕ
+run_numbers running = map (λ (it : Transaction). it.number) running
+
+abbrev pub numbers_of : List Item → List Transaction → List ℕ
+numbers_of items running = tids items ++ run_numbers running
+
+-- none of these is there twice
+abbrev pub AreApart : List ℕ → Type 0
+AreApart [] = Unit {0}
+AreApart (n ∷ ns) = AllByRecursion (λ m. m ≢ n) ns × AreApart ns
+
+-- none is above this one
+abbrev pub AreUpTo : ℕ → List ℕ → Type 0
+AreUpTo last ns = AllByRecursion (λ n. n ≤ last) ns
 
 -- each is less than those behind it
 abbrev pub Rise : List ℕ → Type 0
 Rise [] = Unit {0}
 Rise (n ∷ ns) = AllByRecursion (λ m. n < m) ns × Rise ns
+
+-- each transaction has a number of its own, which is not above the last one; and those that run stand by their numbers
+pub record AreNumbered (state : State) : Type 0 where
+  pub apart : AreApart (numbers_of state.items state.running)
+  pub last : AreUpTo state.last (numbers_of state.items state.running)
+  pub rise : Rise (run_numbers state.running)
 
 -- a transaction with this option may be in this stage
 abbrev pub Allows : OnConflict → Stage → Type 0
@@ -41,33 +62,27 @@ HeadStands [] access = access ≡ no_access
 HeadStands (item ∷ items) access =
     Allows item.option item.stage × IsStage item.stage access × AllByRecursion (λ other. other.stage ≡ stages.Waiting) items
 
--- All parts have spellings. All acts hold in turn, and are guarded by their reads. The numbers of the transactions rise, and none is above
--- the last number.
+-- All parts have spellings. The acts of those that wait hold in turn, those of one that runs hold on its base, and all are guarded by their
+-- reads. Not too many run.
 pub record IsState (state : State) : Type 0 where
   pub spelled : IsSpelledState state
   pub hold : AllHold state
   pub guarded : AreGuarded state
-  pub rise : Rise (numbers_of state)
-  pub last : AllByRecursion (λ n. n ≤ state.last) (numbers_of state)
+  pub few : length state.running ≤ RUN_LIMIT
+  pub numbered : AreNumbered state
   pub head : HeadStands state.items state.access
 
 -- ---- its spelling
 
-abbrev pub running_of : Option Transaction → Option Running
-running_of None = None
-running_of (Some it) = Some (record { tid = it.number; script = it.script; option = it.option; acts = it.acts })
-
--- what is spelled of it before its acts
-abbrev pub order_of : Option Transaction → Option (ℕ × List ℕ × OnConflict)
-order_of None = None
-order_of (Some it) = Some (it.number, it.script, it.option)
+abbrev pub running_of : Transaction → Running
+running_of it = record { tid = it.number; script = it.script; option = it.option; base = it.base; acts = it.acts }
 
 -- its parts as they are spelled
 abbrev pub body_of : State → ClientBody
 body_of state = record {
   held = state.held;
   items = waiting_of state.items state.access;
-  running = running_of state.running;
+  running = map running_of state.running;
   last = state.last;
 }
 

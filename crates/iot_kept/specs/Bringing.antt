@@ -32,7 +32,7 @@ brought held changes = merged held changes.rows changes.gone
 -- the change of what is durable that brings this tree
 abbrev pub brought_for : Purpose → Nodes → Change
 brought_for Hold tree = Held tree
-brought_for Fetch tree = Fetched tree
+brought_for (Fetch number) tree = Fetched number tree
 
 -- the change that these changes make of what is held
 abbrev pub bringing : Purpose → Stamps → Changes → Change

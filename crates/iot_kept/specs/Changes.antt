@@ -1,21 +1,23 @@
 -- The changes of what is durable of a client: when each can follow, and the state after it.
-use Rattle.std.specs.Prelude.{◌≡◌, ℕ, ◌+◌, ◌<◌, List, [], ◌∷◌, ◌++◌, length, Option, Some, None, IsSome}
+use Rattle.std.specs.Prelude.{◌≡◌, ℕ, ◌+◌, ◌<◌, List, [], ◌∷◌, ◌++◌, length, take, Option, Some, None, if◌then◌else◌}
 use Rattle.iot_tree.specs.Tree.{Nodes}
 use Rattle.iot_tree.specs.declared.acts.Act.{Act}
 use Rattle.iot_tree.specs.declared.limits.TheConstants.{ACT_LIMIT}
 use Rattle.iot_tree.specs.declared.labels.OnConflict.{OnConflict}
 use Rattle.iot_tree.specs.declared.labels.OnConflict.TheVariants as options
-use Rattle.iot_acts.specs.Traces.{ReadsHold, FitsIfAny, after_update, after_acts}
+use Rattle.iot_acts.specs.Traces.{ReadsHold, FitsIfAny, ActsHold, after_acts}
 use Rattle.iot_acts.specs.Guards.{IsGuarded}
 use Rattle.iot_access.specs.Access.{no_access}
+use Rattle.iot_bodies.specs.declared.running.TheConstants.{RUN_LIMIT}
 use Rattle.iot_queue.specs.declared.items.Item.{Item}
 use Rattle.iot_queue.specs.declared.items.Stage.{Stage}
 use Rattle.iot_queue.specs.declared.items.Stage.TheVariants as stages
 use Rattle.iot_queue.specs.Queues.{with_head, staged, optioned}
 use Rattle.iot_changes.specs.declared.changes.Change.{Change}
 use Rattle.iot_changes.specs.declared.changes.Change.TheVariants.{Held, Begun, Fetched, Acted, Ended, Cut, Conflicted, Resolved}
-use Rattle.iot_changes.specs.declared.changes.Change.TheVariants.{Repaired, Left}
-use Rattle.iot_kept.specs.States.{Transaction, State, acts_of, view}
+use Rattle.iot_changes.specs.declared.changes.Change.TheVariants.{Repaired, Left, Again}
+use Rattle.iot_certify.specs.Verdicts.{IsLongest}
+use Rattle.iot_kept.specs.States.{Transaction, State, after_each, view, own_view, has_number, numbered}
 
 -- ---- the head
 
@@ -52,22 +54,41 @@ MayLeaveIn (stages.Resolved done) = Unit {0}
 abbrev pub MayLeave : Item → Type 0
 MayLeave item = MayLeaveIn item.stage
 
+-- ---- those that run
+
+-- one with this number runs, and this is so of it
+abbrev pub IsSomeOf : (Transaction → Type 0) → Option Transaction → Type 0
+IsSomeOf Is None = ⊥
+IsSomeOf Is (Some it) = Is it
+
+abbrev pub RunIs : ℕ → (Transaction → Type 0) → List Transaction → Type 0
+RunIs number Is running = IsSomeOf Is (numbered number running)
+
+-- the first of them has this number, and this is so of it
+abbrev pub FirstRunIs : ℕ → (Transaction → Type 0) → List Transaction → Type 0
+FirstRunIs number Is [] = ⊥
+FirstRunIs number Is (it ∷ running) = (it.number ≡ number) × Is it
+
+-- it can do this act: it has fewer than the limit; the act is guarded, its update fits its own view, and each read is that view's answer
+abbrev pub CanAct : Act → Transaction → Type 0
+CanAct act it =
+    (length it.acts < ACT_LIMIT) × IsGuarded act × FitsIfAny (own_view it) act.update × ReadsHold (own_view it) act.reads
+
 -- ---- when a change can follow
 
 abbrev pub CanFollow : State → Change → Type 0
--- nothing runs, and the queue is empty
-CanFollow state (Held tree) = (state.running ≡ None) × (state.items ≡ [])
--- nothing runs, and the number is the last plus 1
-CanFollow state (Begun number script option) = (state.running ≡ None) × (number ≡ state.last + 1)
--- one runs, and the queue is empty
-CanFollow state (Fetched tree) = IsSome state.running × (state.items ≡ [])
--- one runs with acts below the limit; the act is guarded, its update fits the view, and each read is the view's answer
-CanFollow state (Acted act) =
-    IsSome state.running × (length (acts_of state.running) < ACT_LIMIT)
-    × IsGuarded act × FitsIfAny (view state) act.update × ReadsHold (view state) act.reads
--- one runs
-CanFollow state Ended = IsSome state.running
-CanFollow state Cut = IsSome state.running
+-- the queue is empty
+CanFollow state (Held tree) = state.items ≡ []
+-- fewer run than may, and the number is the last plus 1
+CanFollow state (Begun number script option) = (length state.running < RUN_LIMIT) × (number ≡ state.last + 1)
+-- it runs, and the queue is empty
+CanFollow state (Fetched number tree) = RunIs number (λ it. Unit {0}) state.running × (state.items ≡ [])
+-- it runs, and can do the act
+CanFollow state (Acted number act) = RunIs number (CanAct act) state.running
+-- it runs, and its acts hold on the view
+CanFollow state (Ended number) = RunIs number (λ it. ActsHold (view state) it.acts) state.running
+-- it is the first that runs, and this many of its acts, and no more, hold on the view
+CanFollow state (Cut number acts) = FirstRunIs number (λ it. IsLongest (view state) it.acts acts) state.running
 -- the head is Waiting or Resolved
 CanFollow state Conflicted = HeadIs IsSubmitted state.items
 -- the head is Conflict
@@ -76,35 +97,52 @@ CanFollow state (Resolved done access) = HeadIs IsInConflict state.items
 CanFollow state (Repaired script) = HeadIs IsByHand state.items
 -- the head is Waiting, Resolved or Manual
 CanFollow state Left = HeadIs MayLeave state.items
+-- it runs, and its acts do not hold on the view
+CanFollow state (Again number) = RunIs number (λ it. ActsHold (view state) it.acts → ⊥) state.running
 
 -- ---- the state after it
 
--- a transaction with other acts
-abbrev pub with_acts : (List Act → List Act) → Option Transaction → Option Transaction
-with_acts change None = None
-with_acts change (Some running) = Some (record running { acts = change running.acts })
+-- a change of the running transaction with this number
+abbrev pub with_running : ℕ → (Transaction → Transaction) → List Transaction → List Transaction
+with_running number change [] = []
+with_running number change (it ∷ running) =
+    if has_number number it then change it ∷ running else it ∷ with_running number change running
 
--- a transaction as a Waiting item with this budget
-abbrev pub waiting : ℕ → Transaction → Item
-waiting budget running =
+-- it starts again, on this tree
+abbrev pub anew : Nodes → Transaction → Transaction
+anew t it = record it { base = t; acts = [] }
+
+-- it has done one act more
+abbrev pub with_act : Act → Transaction → Transaction
+with_act act it = record it { acts = it.acts ++ act ∷ [] }
+
+-- those that run without it
+abbrev pub others : ℕ → List Transaction → List Transaction
+others number [] = []
+others number (it ∷ running) = if has_number number it then running else it ∷ others number running
+
+-- a transaction as a Waiting item with this budget and these acts
+abbrev pub waiting : ℕ → List Act → Transaction → Item
+waiting budget acts it =
     record {
-      tid = running.number;
-      script = running.script;
+      tid = it.number;
+      script = it.script;
       budget = budget;
-      acts = running.acts;
-      option = running.option;
+      acts = acts;
+      option = it.option;
       stage = stages.Waiting;
     }
 
--- the transaction that runs, if one does, as a Waiting item: one that ended has the limit as its budget, ..
+-- as a Waiting item, if it runs: one that ended has the limit as its budget, ..
 abbrev pub ended : Option Transaction → List Item
 ended None = []
-ended (Some running) = waiting ACT_LIMIT running ∷ []
+ended (Some it) = waiting ACT_LIMIT it.acts it ∷ []
 
--- .. and one that was cut off the number of its acts
-abbrev pub cut : Option Transaction → List Item
-cut None = []
-cut (Some running) = waiting (length running.acts) running ∷ []
+-- .. and one that was cut off the number of the acts that it keeps
+abbrev pub cut : ℕ → List Transaction → State → State
+cut acts [] state = state
+cut acts (it ∷ running) state =
+    record state { items = state.items ++ waiting acts (take acts it.acts) it ∷ []; running = running }
 
 -- the head's updates are made on the held tree, and it is no item any more; so it has no access
 abbrev pub left : State → List Item → State
@@ -133,17 +171,22 @@ repaired script item = staged stages.Conflict (optioned (options.Resolver script
 abbrev pub after : State → Change → State
 -- the tree is held
 after state (Held tree) = record state { held = tree }
--- it runs with no acts, and its number is the last one
+-- it runs with no acts on the view, and its number is the last one
 after state (Begun number script option) =
-    record state { running = Some (record { number = number; script = script; option = option; acts = [] }); last = number }
--- the tree is held, and the running transaction has no acts
-after state (Fetched tree) = record state { held = tree; running = with_acts (λ acts. []) state.running }
+    record state {
+      running = state.running ++ record { number = number; script = script; option = option; base = view state; acts = [] } ∷ [];
+      last = number;
+    }
+-- the tree is held, and it has no acts on the view
+after state (Fetched number tree) =
+    record state { held = tree; running = with_running number (anew (after_each tree state.items)) state.running }
 -- the act is added
-after state (Acted act) = record state { running = with_acts (λ acts. acts ++ act ∷ []) state.running }
+after state (Acted number act) = record state { running = with_running number (with_act act) state.running }
 -- it becomes a Waiting item, whose budget is the limit
-after state Ended = record state { items = state.items ++ ended state.running; running = None }
--- it becomes a Waiting item, whose budget is its number of acts
-after state Cut = record state { items = state.items ++ cut state.running; running = None }
+after state (Ended number) =
+    record state { items = state.items ++ ended (numbered number state.running); running = others number state.running }
+-- it becomes a Waiting item with its first acts, as many as hold on the view, and their number is its budget
+after state (Cut number acts) = cut acts state.running state
 -- the head becomes Manual, leaves, or becomes Conflict, by its option
 after state Conflicted = conflicted state state.items
 -- the head becomes Resolved with this run, which has this access
@@ -153,31 +196,5 @@ after state (Resolved done access) =
 after state (Repaired script) = record state { items = with_head (repaired script) state.items; access = no_access }
 -- the head leaves, and its updates stay in the held tree
 after state Left = left state state.items
-
--- ---- the view after it
-
--- by the change: the tree that is held now, or the view after the act's update, or the view as it was
-abbrev pub seen : Nodes → Change → Nodes
-seen t (Held tree) = tree
-seen t (Begun number script option) = t
-seen t (Fetched tree) = tree
-seen t (Acted act) = after_update t act.update
-seen t Ended = t
-seen t Cut = t
-seen t Conflicted = t
-seen t (Resolved done access) = t
-seen t (Repaired script) = t
-seen t Left = t
-
--- the act that is added, if one is, has an update that fits the tree
-abbrev pub FitsView : Nodes → Change → Type 0
-FitsView t (Held tree) = Unit {0}
-FitsView t (Begun number script option) = Unit {0}
-FitsView t (Fetched tree) = Unit {0}
-FitsView t (Acted act) = FitsIfAny t act.update
-FitsView t Ended = Unit {0}
-FitsView t Cut = Unit {0}
-FitsView t Conflicted = Unit {0}
-FitsView t (Resolved done access) = Unit {0}
-FitsView t (Repaired script) = Unit {0}
-FitsView t Left = Unit {0}
+-- it has no acts on the view
+after state (Again number) = record state { running = with_running number (anew (view state)) state.running }

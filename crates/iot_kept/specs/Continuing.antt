@@ -1,5 +1,5 @@
 -- What becomes of the transactions that wait, and of one that is cut.
-use Rattle.std.specs.Prelude.{◌≡◌, ◌≤◌, List, [], ◌∷◌, ◌++◌, length, Some, None}
+use Rattle.std.specs.Prelude.{◌≡◌, ◌≤◌, ℕ, List, [], ◌∷◌, ◌++◌, length, take}
 use Rattle.iot_tree.specs.Tree.{Nodes}
 use Rattle.iot_acts.specs.Traces.{ActsHold, after_acts}
 use Rattle.iot_queue.specs.declared.items.Item.{Item}
@@ -45,24 +45,25 @@ PendingReadsStay = (state : State) (change : Change) → CanFollow state change 
 
 -- ---- a cut
 
--- the running transaction waits with the acts that it has done so far, in their order, and may do no more of them
-pub record IsPrefixOf (running : Transaction) (item : Item) : Type 0 where
-  pub number : item.tid ≡ running.number
-  pub script : item.script ≡ running.script
-  pub option : item.option ≡ running.option
-  pub acts : item.acts ≡ running.acts
-  pub budget : item.budget ≡ length item.acts
+-- a running transaction waits with the first of the acts that it has done so far, in their order, and may do no more of them
+pub record IsPrefixOf (it : Transaction) (count : ℕ) (item : Item) : Type 0 where
+  pub number : item.tid ≡ it.number
+  pub script : item.script ≡ it.script
+  pub option : item.option ≡ it.option
+  pub acts : item.acts ≡ take count it.acts
+  pub budget : item.budget ≡ count
   pub stage : item.stage ≡ Waiting
 
--- it is the last that waits; nothing runs any more, and nothing else changes
-pub record IsCutFrom (running : Transaction) (old new : State) : Type 0 where
+-- it is the last that waits; the others run on, and nothing else changes
+pub record IsCutFrom (it : Transaction) (running : List Transaction) (acts : ℕ) (old new : State) : Type 0 where
   pub item : Item
-  pub prefix : IsPrefixOf running item
+  pub prefix : IsPrefixOf it acts item
   pub items : new.items ≡ old.items ++ item ∷ []
-  pub none_runs : new.running ≡ None
+  pub run : new.running ≡ running
   pub held : new.held ≡ old.held
   pub last : new.last ≡ old.last
 
--- whenever one runs
+-- whenever one is the first that runs
 abbrev pub ACutIsItsPrefix : Type 0
-ACutIsItsPrefix = (state : State) (running : Transaction) → state.running ≡ Some running → IsCutFrom running state (after state Cut)
+ACutIsItsPrefix = (state : State) (it : Transaction) (running : List Transaction) (acts : ℕ) → state.running ≡ it ∷ running
+    → IsCutFrom it running acts state (after state (Cut it.number acts))

@@ -6,7 +6,7 @@ use Rattle.iot_tree.specs.Tree.{Nodes}
 use Rattle.iot_stamp.specs.Stamps.{Stamps, nodes_of}
 use Rattle.iot_changes.specs.Spelling.{change_spelling}
 use Rattle.iot_changes.specs.declared.changes.Change.TheVariants.{Held}
-use Rattle.iot_kept.specs.Memory.{memory_state, class_of}
+use Rattle.iot_kept.specs.Memory.{memory_state, classes_of}
 use Rattle.iot_kept.specs.Rules.{rules, IsMemory}
 use Rattle.iot_kept.specs.States.{State}
 use Rattle.iot_kept.specs.declared.kept.Kept.{Kept}
@@ -24,9 +24,9 @@ state_of kept = memory_state (memory_of kept)
 abbrev pub stamps_of : {D : Type 0} → Kept D → Stamps
 stamps_of kept = (memory_of kept).durable.held
 
--- whether the running transaction is first class, if one runs
-abbrev pub class_in : {D : Type 0} → Kept D → Option Bool
-class_in kept = class_of (memory_of kept).durable.running
+-- whether those that run are first class, in their order
+abbrev pub classes_in : {D : Type 0} → Kept D → List Bool
+classes_in kept = classes_of (memory_of kept).durable.running.items
 
 -- the disk
 abbrev pub disk_of : {D : Type 0} → Kept D → D
@@ -41,7 +41,7 @@ abbrev pub IsHeldRecord : Option (List ℕ) → Nodes → Type 0
 IsHeldRecord None tree = Unit {0}
 IsHeldRecord (Some text) tree = text ≡ change_spelling (Held tree)
 
--- nothing is under way: the disk has one image, which stands for the state, and the tree beside the state is its view
+-- nothing is under way: the disk has one image, which stands for the state, and the trees beside the state are its views
 pub record IsSynced {D : Type 0} (medium : Medium D) (kept : Kept D) : Type 0 where
   pub checkpointed : durable.IsSynced medium rules memory_state IsMemory kept.checkpointed
   pub spelled : IsHeldRecord kept.held_record (nodes_of (stamps_of kept))

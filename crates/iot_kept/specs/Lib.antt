@@ -5,6 +5,7 @@ pub mod Memory
 pub mod Guarding
 pub mod Spelled
 pub mod Continuing
+pub mod Versions
 pub mod Bodies
 pub mod Rules
 pub mod Standing

@@ -1,39 +1,31 @@
 -- What a client has in memory of its durable state.
-use Rattle.std.specs.Prelude.{◌≡◌, ℕ, Bool, false, Option, Some, None}
+use Rattle.std.specs.Prelude.{◌≡◌, ℕ, zero, suc, Bool, true, false, List, [], ◌∷◌, ◌++◌, map, drop, if◌then◌else◌}
+use Rattle.std.specs.List.{AllByRecursion}
+use Rattle.iot_tree.specs.Tree.{Nodes}
+use Rattle.iot_stamp.specs.Stamps.{nodes_of}
 use Rattle.iot_changes.specs.declared.changes.Change.{Change}
 use Rattle.iot_changes.specs.declared.changes.Change.TheVariants.{Begun, Ended, Cut}
-use Rattle.iot_stamp.specs.Stamps.{nodes_of}
-use Rattle.iot_queue.specs.declared.items.Item.{Item}
-use Rattle.iot_queue.specs.declared.items.Stage.TheVariants.{Waiting}
-use Rattle.iot_kept.specs.States.{Transaction, State, view}
+use Rattle.iot_kept.specs.States.{Transaction, State, view, own_view, has_number}
 use Rattle.iot_kept.specs.declared.durable.Durable.{Durable}
 use Rattle.iot_kept.specs.declared.memory.Memory.{Memory}
+use Rattle.iot_kept.specs.declared.running.Ground.{Ground}
+use Rattle.iot_kept.specs.declared.running.Ground.TheVariants.{View, Past}
 use Rattle.iot_kept.specs.declared.running.Running.{Running}
 
--- the running transaction without its class
-abbrev pub transaction_of : Option Running → Option Transaction
-transaction_of None = None
-transaction_of (Some running) =
-    Some (record { number = running.tid; script = running.script; option = running.option; acts = running.acts })
+-- a running transaction without its class
+abbrev pub transaction : Running → Transaction
+transaction running =
+    record { number = running.tid; script = running.script; option = running.option; base = running.base; acts = running.acts }
 
--- a running transaction as one that waits, with this budget
-abbrev pub item_of : Running → ℕ → Item
-item_of running budget =
-    record {
-      tid = running.tid;
-      script = running.script;
-      budget = budget;
-      acts = running.acts;
-      option = running.option;
-      stage = Waiting;
-    }
+abbrev pub transactions : List Running → List Transaction
+transactions running = map transaction running
 
 -- the state
 abbrev pub durable_state : Durable → State
 durable_state durable = record {
   held = nodes_of durable.held;
   items = durable.queue;
-  running = transaction_of durable.running;
+  running = transactions durable.running.items;
   last = durable.last;
   access = durable.access;
 }
@@ -41,30 +33,70 @@ durable_state durable = record {
 abbrev pub memory_state : Memory → State
 memory_state memory = durable_state memory.durable
 
--- the tree beside the state is its view
-abbrev pub Sees : Memory → Type 0
-Sees memory = memory.view ≡ view (memory_state memory)
+-- ---- the trees beside the state
 
--- ---- the class
+-- the one beside a running transaction is its own view
+abbrev pub SeesOwn : Running → Type 0
+SeesOwn running = running.own ≡ own_view (transaction running)
 
--- whether the transaction is first class, if one runs
-abbrev pub class_of : Option Running → Option Bool
-class_of None = None
-class_of (Some running) = Some running.first
+-- this is so of one that runs on the view
+abbrev pub IfOnView : Ground → Type 0 → Type 0
+IfOnView View P = P
+IfOnView Past P = Unit {0}
 
--- the class after a change: one that begins is second class
-abbrev pub class_after : Change → Option Bool → Option Bool
-class_after (Begun number script option) class = Some false
-class_after Ended class = None
-class_after Cut class = None
-class_after other class = class
+-- and its base is this tree, if it runs on the view
+pub record StandsOn (t : Nodes) (running : Running) : Type 0 where
+  pub own : SeesOwn running
+  pub base : IfOnView running.on (running.base ≡ t)
 
--- the running transaction in another class
-abbrev pub classed : Bool → Option Bool → Option Bool
-classed first None = None
-classed first (Some other) = Some first
+-- the tree beside the state is its view, on which those that run stand
+pub record Sees (memory : Memory) : Type 0 where
+  pub view : memory.view ≡ view (memory_state memory)
+  pub running : AllByRecursion (StandsOn memory.view) memory.durable.running.items
 
--- if a transaction runs, it is second class
-abbrev pub IsSecond : Option Bool → Type 0
-IsSecond None = Unit {0}
-IsSecond (Some first) = first ≡ false
+-- ---- the classes
+
+-- whether those that run are first class, in their order
+abbrev pub classes_of : List Running → List Bool
+classes_of running = map (λ (it : Running). it.first) running
+
+-- without that of the one with this number
+abbrev pub other_classes : ℕ → List Transaction → List Bool → List Bool
+other_classes number [] classes = classes
+other_classes number (it ∷ running) [] = []
+other_classes number (it ∷ running) (first ∷ classes) =
+    if has_number number it then classes else first ∷ other_classes number running classes
+
+-- with another one for the one with this number
+abbrev pub with_class : ℕ → Bool → List Transaction → List Bool → List Bool
+with_class number new [] classes = classes
+with_class number new (it ∷ running) [] = []
+with_class number new (it ∷ running) (first ∷ classes) =
+    if has_number number it then new ∷ classes else first ∷ with_class number new running classes
+
+-- the classes after a change of what ran: one that begins is second class
+abbrev pub classes_after : Change → List Transaction → List Bool → List Bool
+classes_after (Begun number script option) running classes = classes ++ false ∷ []
+classes_after (Ended number) running classes = other_classes number running classes
+classes_after (Cut number acts) running classes = drop 1 classes
+classes_after other running classes = classes
+
+-- all are second class
+abbrev pub AreSecond : List Bool → Type 0
+AreSecond classes = AllByRecursion (λ first. first ≡ false) classes
+
+-- ---- those that run, one by one
+
+-- the first one with this number is at this place
+abbrev pub IsPlace : ℕ → List Running → ℕ → Type 0
+IsPlace number [] place = ⊥
+IsPlace number (it ∷ running) zero = has_number number (transaction it) ≡ true
+IsPlace number (it ∷ running) (suc place) = (has_number number (transaction it) ≡ false) × IsPlace number running place
+
+-- one in second class
+abbrev pub second : Running → Running
+second it = record it { first = false }
+
+-- one that began on a view that is past
+abbrev pub past : Running → Running
+past it = record it { on = Past }

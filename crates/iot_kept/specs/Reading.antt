@@ -1,6 +1,7 @@
 -- What is read of the body of a checkpoint, and which parts make a state that a client may have.
-use Rattle.std.specs.Prelude.{◌≡◌, ◌≤◌, ◌<◌, ℕ, Bool, true, false, List, [], ◌∷◌, map, Option, Some, None, option_map}
+use Rattle.std.specs.Prelude.{◌≡◌, ◌≤◌, ◌<◌, ℕ, Bool, true, false, List, [], ◌∷◌, map, Option, Some, None, Vec}
 use Rattle.std.specs.List.{AllByRecursion}
+use Rattle.std.specs.declared.alloc.Global.{Global}
 use Rattle.iot_tree.specs.Tree.{Nodes}
 use Rattle.iot_tree.specs.declared.access.Access.{Access}
 use Rattle.iot_tree.specs.declared.acts.Act.{Act}
@@ -9,20 +10,22 @@ use Rattle.iot_acts.specs.Guards.{IsGuarded}
 use Rattle.iot_acts.specs.Traces.{ReadsHold, FitsIfAny, after_update, after_acts}
 use Rattle.iot_queue.specs.declared.items.Item.{Item}
 use Rattle.iot_queue.specs.declared.items.Stage.TheVariants as stages
+use Rattle.iot_stamp.specs.Stamps.{nodes_of, unstamped}
 use Rattle.iot_bodies.specs.declared.client.ClientBody.{ClientBody}
-use Rattle.iot_bodies.specs.declared.client.Running.{Running}
+use Rattle.iot_bodies.specs.declared.client.Running.{Running as Spelled}
 use Rattle.iot_bodies.specs.declared.client.Waiting.{Waiting}
-use Rattle.iot_kept.specs.Bodies.{Allows, numbers_of}
-use Rattle.iot_kept.specs.Memory.{durable_state, Sees}
-use Rattle.iot_kept.specs.States.{Transaction, State, acts_of, after_each, after_items, view}
+use Rattle.iot_kept.specs.Bodies.{Allows, AreNumbered}
+use Rattle.iot_kept.specs.Memory.{transaction, transactions, durable_state, SeesOwn}
+use Rattle.iot_kept.specs.States.{Transaction, State, after_each, view}
 use Rattle.iot_kept.specs.declared.durable.Durable.{Durable}
 use Rattle.iot_kept.specs.declared.memory.Memory.{Memory}
+use Rattle.iot_kept.specs.declared.running.Ground.TheVariants.{Past}
+use Rattle.iot_kept.specs.declared.running.Running.{Running}
 
 -- ---- the state of parts
 
-abbrev pub transaction_from : Option Running → Option Transaction
-transaction_from None = None
-transaction_from (Some it) = Some (record { number = it.tid; script = it.script; option = it.option; acts = it.acts })
+abbrev pub transaction_from : Spelled → Transaction
+transaction_from it = record { number = it.tid; script = it.script; option = it.option; base = it.base; acts = it.acts }
 
 abbrev pub items_of : List Waiting → List Item
 items_of waiting = map (λ (one : Waiting). one.item) waiting
@@ -36,7 +39,7 @@ abbrev pub state_from : ClientBody → State
 state_from parts = record {
   held = parts.held;
   items = items_of parts.items;
-  running = transaction_from parts.running;
+  running = map transaction_from parts.running;
   last = parts.last;
   access = access_of parts.items;
 }
@@ -59,10 +62,6 @@ abbrev pub IsAbove : Option ℕ → ℕ → Type 0
 IsAbove None n = Unit {0}
 IsAbove (Some previous) n = previous < n
 
--- the number of the one that runs
-abbrev pub number_of : Option Transaction → Option ℕ
-number_of running = option_map (λ (it : Transaction). it.number) running
-
 -- above the number before it, and not above the last one
 abbrev pub ComesNext : (last : ℕ) → Option ℕ → ℕ → Type 0
 ComesNext last previous n = IsAbove previous n × (n ≤ last)
@@ -70,13 +69,6 @@ ComesNext last previous n = IsAbove previous n × (n ≤ last)
 -- each comes next after the one before it
 abbrev pub InOrder : (last : ℕ) → List ℕ → Option ℕ → Type 0
 InOrder last = InTurn (ComesNext last) (λ previous n. Some n)
-
--- the same of the numbers of those that wait, and the number after them
-abbrev pub ItemsInOrder : (last : ℕ) → List Item → Option ℕ → Type 0
-ItemsInOrder last = InTurn (λ previous item. ComesNext last previous item.tid) (λ previous item. Some item.tid)
-
-abbrev pub number_after : List Item → Option ℕ → Option ℕ
-number_after = after_turns (λ previous item. Some item.tid)
 
 -- ---- stages
 
@@ -100,9 +92,13 @@ ActsSuit = InTurn Suits (λ t act. after_update t act.update)
 abbrev pub EachSuit : List Item → Nodes → Type 0
 EachSuit = InTurn (λ t item. ActsSuit item.acts t) (λ t item. after_acts t item.acts)
 
+-- those of a running transaction, on its base
+abbrev pub SuitOwn : Transaction → Type 0
+SuitOwn it = ActsSuit it.acts it.base
+
 pub record AllSuit (state : State) : Type 0 where
   pub items : EachSuit state.items state.held
-  pub running : ActsSuit (acts_of state.running) (after_items state)
+  pub running : AllByRecursion SuitOwn state.running
 
 -- the acts were made on the tree if they suit it in turn, and only then
 abbrev pub MadeIf : Bool → List Act → (old new : Nodes) → Type 0
@@ -113,20 +109,51 @@ abbrev pub EachMadeIf : Bool → List Item → (old new : Nodes) → Type 0
 EachMadeIf true items old new = EachSuit items old × (new ≡ after_each old items)
 EachMadeIf false items old new = EachSuit items old → ⊥
 
--- the view, if all acts suit in turn, and only then
+-- the view, if the acts of all that wait suit in turn, and only then
 abbrev pub IsViewOf : State → Option Nodes → Type 0
-IsViewOf state (Some t) = AllSuit state × (t ≡ view state)
-IsViewOf state None = AllSuit state → ⊥
+IsViewOf state (Some t) = EachSuit state.items state.held × (t ≡ view state)
+IsViewOf state None = EachSuit state.items state.held → ⊥
+
+-- ---- those that run
+
+-- in second class, with its own view; on which view it began is not known
+pub record IsResumed (it : Running) : Type 0 where
+  pub suit : SuitOwn (transaction it)
+  pub class : it.first ≡ false
+  pub own : SeesOwn it
+  pub on : it.on ≡ Past
+
+-- it is in memory if its acts suit its base, and only then
+abbrev pub ResumesIf : Spelled → Option Running → Type 0
+ResumesIf it (Some made) = (transaction made ≡ transaction_from it) × IsResumed made
+ResumesIf it None = SuitOwn (transaction_from it) → ⊥
+
+-- the same of all
+abbrev pub EachResumesIf : List Spelled → Option (Vec Running Global) → Type 0
+EachResumesIf running (Some made) = (transactions made.items ≡ map transaction_from running) × AllByRecursion IsResumed made.items
+EachResumesIf running None = AllByRecursion SuitOwn (map transaction_from running) → ⊥
 
 -- ---- all
 
--- the state passes the tests, beside those that its parts have passed
-pub record Passes (state : State) : Type 0 where
-  pub order : InOrder state.last (numbers_of state) None
-  pub waits : MayWait state.items
-  pub acts : AllSuit state
+-- the parts as they are in memory
+pub record IsMadeOf (parts : ClientBody) (durable : Durable) : Type 0 where
+  pub state : durable_state durable ≡ state_from parts
+  pub stamps : durable.held ≡ unstamped (nodes_of durable.held)
+  pub running : AllByRecursion IsResumed durable.running.items
 
--- it is in memory with its view if it passes, and only then
+-- they are there if the acts of each that runs suit its base, and only then
+abbrev pub IsMadeIf : ClientBody → Option Durable → Type 0
+IsMadeIf parts (Some durable) = IsMadeOf parts durable
+IsMadeIf parts None = AllByRecursion SuitOwn (map transaction_from parts.running) → ⊥
+
+-- the tests that are made then
+pub record Passes (state : State) : Type 0 where
+  pub numbered : AreNumbered state
+  pub waits : MayWait state.items
+  pub items : EachSuit state.items state.held
+
+-- it is in memory with its view if it passes them, and only then
 abbrev pub IsChecked : Durable → Option Memory → Type 0
-IsChecked durable (Some memory) = Passes (durable_state durable) × (memory.durable ≡ durable) × Sees memory
+IsChecked durable (Some memory) =
+    Passes (durable_state durable) × (memory.durable ≡ durable) × (memory.view ≡ view (durable_state durable))
 IsChecked durable None = Passes (durable_state durable) → ⊥

@@ -1,5 +1,5 @@
 -- States whose parts have spellings: what runs, what readers accept and what changes bring keep within the limits.
-use Rattle.std.specs.Prelude.{List, Option, Some, None}
+use Rattle.std.specs.Prelude.{List}
 use Rattle.std.specs.List.{AllByRecursion}
 use Rattle.iot_text.specs.Names.{IsName}
 use Rattle.iot_views.specs.Rules.{IsAccess, IsNumber, IsOption, IsBudget, AreActs, IsTreeOfRows}
@@ -28,21 +28,21 @@ pub record IsSpelledItem (item : Item) : Type 0 where
 abbrev pub AreSpelledItems : List Item → Type 0
 AreSpelledItems items = AllByRecursion IsSpelledItem items
 
--- the one that runs: its acts so far are not too many, and each has a spelling
+-- one that runs: its base is a tree that has a spelling, its acts so far are not too many, and each has one
 pub record IsSpelledRunning (running : Transaction) : Type 0 where
   pub number : IsNumber running.number
   pub script : IsName running.script
   pub option : IsOption running.option
+  pub base : IsTreeOfRows running.base
   pub acts : AreActs running.acts
 
-abbrev pub IsSpelledIfAny : Option Transaction → Type 0
-IsSpelledIfAny None = Unit {0}
-IsSpelledIfAny (Some running) = IsSpelledRunning running
+abbrev pub AreSpelledRunning : List Transaction → Type 0
+AreSpelledRunning running = AllByRecursion IsSpelledRunning running
 
 -- the held tree is one and has a spelling, and so have the transactions, the last number and the access
 pub record IsSpelledState (state : State) : Type 0 where
   pub held : IsTreeOfRows state.held
   pub items : AreSpelledItems state.items
-  pub running : IsSpelledIfAny state.running
+  pub running : AreSpelledRunning state.running
   pub last : IsNumber state.last
   pub access : IsAccess state.access

@@ -6,7 +6,7 @@ use Rattle.iot_stamp.specs.Acting.{stamped_acts}
 use Rattle.iot_stamp.specs.Stamps.{Stamps, unstamped}
 use Rattle.iot_changes.specs.declared.changes.Change.{Change}
 use Rattle.iot_changes.specs.declared.changes.Change.TheVariants.{Held, Begun, Fetched, Acted, Ended, Cut, Conflicted, Resolved}
-use Rattle.iot_changes.specs.declared.changes.Change.TheVariants.{Repaired, Left}
+use Rattle.iot_changes.specs.declared.changes.Change.TheVariants.{Repaired, Left, Again}
 use Rattle.iot_kept.specs.Changes.{stage_by}
 
 -- the updates of a head that leaves are the client's own
@@ -27,17 +27,18 @@ stamps_conflicted held (item ∷ items) = stamps_staying (stage_by item.option) 
 abbrev pub restamped : List Item → Stamps → Change → Stamps
 restamped items held (Held tree) = unstamped tree
 restamped items held (Begun number script option) = held
-restamped items held (Fetched tree) = unstamped tree
-restamped items held (Acted act) = held
-restamped items held Ended = held
-restamped items held Cut = held
+restamped items held (Fetched number tree) = unstamped tree
+restamped items held (Acted number act) = held
+restamped items held (Ended number) = held
+restamped items held (Cut number acts) = held
 restamped items held Conflicted = stamps_conflicted held items
 restamped items held (Resolved done access) = held
 restamped items held (Repaired script) = held
 restamped items held Left = stamps_left held items
+restamped items held (Again number) = held
 
 -- the held tree before and after a change that was made; of one that brings a tree this says nothing
 abbrev pub StampsBy : Change → List Item → Stamps → Stamps → Type 0
 StampsBy (Held tree) items old new = Unit {0}
-StampsBy (Fetched tree) items old new = Unit {0}
+StampsBy (Fetched number tree) items old new = Unit {0}
 StampsBy change items old new = new ≡ restamped items old change

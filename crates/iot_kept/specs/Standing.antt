@@ -4,6 +4,10 @@ use Rattle.iot_durable.specs.Standing as durable
 use Rattle.iot_kept.specs.Rules.{rules}
 use Rattle.iot_kept.specs.States.{State}
 
+-- how many records were ever appended to what the bytes encode, modulo 2 ^ 64
+abbrev pub records_in : List ℕ → ℕ
+records_in bytes = durable.records_in rules bytes
+
 -- the bytes stand for the state
 abbrev pub StandFor : List ℕ → State → Type 0
 StandFor bytes state = durable.StandFor rules bytes state

@@ -1,16 +1,17 @@
 //! Reading the body of a checkpoint.
 ghost use Rattle.std.specs.Prelude.{◌≡◌, ◌++◌, IfOk, IfSome, OnOk};
 ghost use Rattle.iot_durable.specs.Rules.{IsThis};
-ghost use Rattle.iot_stamp.specs.Stamps.{nodes_of, unstamped};
 ghost use Rattle.iot_kept.specs.Bodies.{IsBody};
-ghost use Rattle.iot_kept.specs.Memory.{memory_state, durable_state, transaction_of, class_of, IsSecond};
-ghost use Rattle.iot_kept.specs.Reading.{IsChecked, state_from, items_of, access_of, transaction_from};
+ghost use Rattle.iot_kept.specs.Memory.{memory_state};
+ghost use Rattle.iot_kept.specs.Reading.{IsChecked, IsMadeIf, ResumesIf, EachResumesIf, items_of, access_of};
 ghost use Rattle.iot_kept.specs.Rules.{IsMemory, IsStarted};
 ghost use Rattle.iot_kept.specs.States.{State};
 
+use crate::checks::make_all;
 use crate::durable::Durable;
 use crate::memory::Memory;
-use crate::running::Running;
+use crate::running::{Ground, Running};
+use crate::versions::read_client;
 use iot_access::of_nothing;
 use iot_bodies::{ClientBody, Running as Spelled, Waiting};
 use iot_held::Held;
@@ -18,7 +19,6 @@ use iot_queue::Queue;
 use iot_slots::Version;
 use iot_text::NoMemory;
 use iot_tree::{Access, Sequence};
-use iot_versions::read_client;
 use std::alloc::Global;
 use std::collections::VecDeque;
 
@@ -36,7 +36,9 @@ pub(crate) fn read_body(
     let Some(parts) = read_client(alloc, version, body)? else {
         return Ok(None);
     };
-    let durable = durable_from(alloc, parts)?;
+    let Some(durable) = durable_from(alloc, parts)? else {
+        return Ok(None);
+    };
     checked(alloc, durable)
 }
 
@@ -44,7 +46,7 @@ pub(crate) fn read_body(
 fn checked(alloc: Global, durable: Durable) -> Result<Option<Memory>, NoMemory>
     ensures { IfOk result (IsChecked durable) }
 {
-    if !durable.are_in_order() {
+    if !durable.are_numbered(alloc)? {
         return Ok(None);
     }
     if !durable.may_wait() {
@@ -56,11 +58,10 @@ fn checked(alloc: Global, durable: Durable) -> Result<Option<Memory>, NoMemory>
     }
 }
 
-/// The parts as they are in memory. No stamp of a server is known, and a transaction that runs is second class.
-fn durable_from(alloc: Global, parts: ClientBody) -> Result<Durable, NoMemory>
-    ensures state { IfOk result (λ durable. durable_state durable ≡ state_from parts) }
-    ensures stamps { IfOk result (λ durable. durable.held ≡ unstamped (nodes_of durable.held)) }
-    ensures class { IfOk result (λ durable. IsSecond (class_of durable.running)) }
+/// The parts as they are in memory, if the acts of each transaction that runs suit its base. No stamp of a server is known, and those that
+/// run are second class.
+fn durable_from(alloc: Global, parts: ClientBody) -> Result<Option<Durable>, NoMemory>
+    ensures { IfOk result (IsMadeIf parts) }
 {
     let ClientBody {
         held,
@@ -68,15 +69,18 @@ fn durable_from(alloc: Global, parts: ClientBody) -> Result<Durable, NoMemory>
         running,
         last,
     } = parts;
+    let Some(running) = running_from(alloc, running)? else {
+        return Ok(None);
+    };
     let held = Held::unstamped(alloc, held)?;
     let (queue, access) = queue_from(alloc, items)?;
-    Ok(Durable {
+    Ok(Some(Durable {
         held,
         queue,
-        running: running_from(running),
+        running,
         last,
         access,
-    })
+    }))
 }
 
 /// The transactions that wait, and the access of the first one.
@@ -113,26 +117,44 @@ fn push_all(queue: &mut Queue, waiting: VecDeque<Waiting>) -> Result<(), NoMemor
     Ok(())
 }
 
-/// The one that runs, in second class.
-fn running_from(running: Option<Spelled>) -> Option<Running>
-    ensures running { transaction_of result ≡ transaction_from running }
-    ensures class { IsSecond (class_of result) }
+/// Those that run, if the acts of each suit its base.
+fn running_from(alloc: Global, running: Sequence<Spelled>) -> Result<Option<Vec<Running>>, NoMemory>
+    ensures { IfOk result (EachResumesIf running) }
 {
-    match running {
-        Some(
-            Spelled {
-                tid,
-                script,
-                option,
-                acts,
-            },
-        ) => Some(Running {
-            tid,
-            script,
-            option,
-            first: false,
-            acts,
-        }),
-        None => None,
+    let mut left = VecDeque::from(running.into_vec());
+    let mut made = Vec::new(alloc);
+    'running: while let Some(it) = left.pop_front() {
+        let Some(it) = resumed(alloc, it)? else {
+            return Ok(None);
+        };
+        made.push(it)?;
     }
+    Ok(Some(made))
+}
+
+/// One that runs, if its acts suit its base. On which view it began is not known.
+fn resumed(alloc: Global, it: Spelled) -> Result<Option<Running>, NoMemory>
+    ensures { IfOk result (ResumesIf it) }
+{
+    let Spelled {
+        tid,
+        script,
+        option,
+        base,
+        acts,
+    } = it;
+    let mut own = base.copy(alloc)?;
+    if !make_all(alloc, &mut own, acts.as_slice())? {
+        return Ok(None);
+    }
+    Ok(Some(Running {
+        tid,
+        script,
+        option,
+        first: false,
+        acts,
+        base,
+        own,
+        on: Ground::Past,
+    }))
 }

@@ -28,10 +28,10 @@ const ROOM_FOR_ROW: usize = 80;
 /// What a reply's changes are brought for.
 #[derive(Clone, Copy, Debug, PartialEq, Eq)]
 pub enum Purpose {
-    /// To be held while nothing runs.
+    /// To be held.
     Hold,
-    /// For the transaction that runs, which starts again.
-    Fetch,
+    /// For the running transaction with this number, which starts again.
+    Fetch { number: u64 },
 }
 
 /// Why changes are not brought.
@@ -78,7 +78,7 @@ impl From<NoMemory> for BringFault {
 }
 
 impl<D: Disk> Kept<D> {
-    ghost use Rattle.iot_kept.specs.Kept.{state_of, stamps_of, class_in, disk_of, records_of, IsSynced};
+    ghost use Rattle.iot_kept.specs.Kept.{state_of, stamps_of, classes_in, disk_of, records_of, IsSynced};
 
     /// Merges the changes into the held tree, and appends one record, of the whole tree, which is on the disk when this answers Ok.
     /// Costs a pass over the tree and a copy of the record's bytes; with a checkpoint as much as the whole state is long.
@@ -110,7 +110,7 @@ impl<D: Disk> Kept<D> {
         ensures tree { OnOk result (IsTree (nodes_of (brought (stamps_of self.old) changes))) }
         ensures stamps { OnOk result (stamps_of self.new ≡ brought (stamps_of self.old) changes) }
         ensures state { OnOk result (state_of self.new ≡ after (state_of self.old) (bringing purpose (stamps_of self.old) changes)) }
-        ensures class { OnOk result (class_in self.new ≡ class_in self.old) }
+        ensures class { OnOk result (classes_in self.new ≡ classes_in self.old) }
         ensures records { OnOk result (records_of self.new ≡ next (records_of self.old)) }
         ensures synced { OnOk result (IsSynced D.medium self.new) }
 
@@ -136,7 +136,7 @@ fn brought_for(purpose: Purpose, tree: Tree) -> Change
 {
     match purpose {
         Purpose::Hold => Change::Held(tree),
-        Purpose::Fetch => Change::Fetched(tree),
+        Purpose::Fetch { number } => Change::Fetched { number, tree },
     }
 }
 
@@ -183,7 +183,7 @@ fn record_for(
             Some(text) => Ok(text),
             None => spelled(change, room_for(tree), alloc),
         },
-        Purpose::Fetch => spelled(change, room_for(tree), alloc),
+        Purpose::Fetch { .. } => spelled(change, room_for(tree), alloc),
     }
 }
 

@@ -1,26 +1,33 @@
 //! Whether what a checkpoint holds is a state that a client may have.
-ghost use Rattle.std.specs.Prelude.{◌≡◌, ◌↔◌, None, Some, option_to_list, IfOk, IsTrue};
-ghost use Rattle.iot_kept.specs.Bodies.{numbers_of, Allows};
+ghost use Rattle.std.specs.Prelude.{◌≡◌, ◌↔◌, ◌++◌, None, Some, map, IfOk, IsTrue};
+ghost use Rattle.iot_kept.specs.Bodies.{AreNumbered, Allows, tids};
 ghost use Rattle.iot_kept.specs.Changes.{stage_by};
-ghost use Rattle.iot_kept.specs.Memory.{durable_state, transaction_of};
-ghost use Rattle.iot_kept.specs.Reading.{ComesNext, IsAbove, InOrder, ItemsInOrder, number_after, number_of};
+ghost use Rattle.iot_kept.specs.Memory.{durable_state};
+ghost use Rattle.iot_kept.specs.Reading.{ComesNext, IsAbove, InOrder};
 ghost use Rattle.iot_kept.specs.Reading.{AllWait, MayWait, IsViewOf, MadeIf, EachMadeIf};
+ghost use Rattle.iot_kept.specs.declared.running.Running.{Running as RunningValue};
 
 use crate::durable::Durable;
 use crate::following::suits;
 use crate::memory::apply_if_any;
-use crate::running::{Running, acts_of};
+use crate::running::Running;
 use iot_queue::{Item, Stage};
 use iot_text::NoMemory;
 use iot_tree::{Act, OnConflict, Tree};
 use std::alloc::Global;
 
 impl Durable {
-    /// Whether the numbers of the transactions rise, up to the last number.
-    pub(crate) fn are_in_order(&self) -> bool
-        ensures { IsTrue result ↔ InOrder self.now.last (numbers_of (durable_state self.now)) None }
+    /// Whether each transaction has a number of its own, up to the last number, and those that run stand by their numbers.
+    pub(crate) fn are_numbered(&self, alloc: Global) -> Result<bool, NoMemory>
+        ensures { IfOk result (λ are. IsTrue are ↔ AreNumbered (durable_state self.now)) }
     {
-        do_rise(self.queue.items(), number_of(&self.running), self.last)
+        let run = run_numbers(alloc, self.running.as_slice())?;
+        if !do_rise(run.as_slice(), self.last) {
+            return Ok(false);
+        }
+        let mut numbers = all_numbers(alloc, self.queue.items(), run.as_slice())?;
+        numbers.sort()?;
+        Ok(do_rise(numbers.as_slice(), self.last))
     }
 
     /// Whether all transactions but the first one are Waiting, and that one is in a stage that its option allows.
@@ -33,15 +40,12 @@ impl Durable {
         }
     }
 
-    /// The view, if each act is guarded, its update fits, and its reads are the answers of the tree on which it was done.
+    /// The view, if each act of those that wait is guarded, its update fits, and its reads are the answers of the tree on which it was done.
     pub(crate) fn view(&self, alloc: Global) -> Result<Option<Tree>, NoMemory>
         ensures { IfOk result (IsViewOf (durable_state self.now)) }
     {
         let mut tree = self.held.tree().copy(alloc)?;
         if !make_each(alloc, &mut tree, self.queue.items())? {
-            return Ok(None);
-        }
-        if !make_all(alloc, &mut tree, acts_of(&self.running))? {
             return Ok(None);
         }
         Ok(Some(tree))
@@ -50,32 +54,41 @@ impl Durable {
 
 // ---- numbers
 
-/// The number of the one that runs, if one does.
-fn number_of(running: &Option<Running>) -> Option<u64>
-    ensures { result ≡ number_of (transaction_of running.now) }
+/// The numbers of those that run.
+fn run_numbers(alloc: Global, running: &[Running]) -> Result<Vec<u64>, NoMemory>
+    ensures { IfOk result (λ numbers. numbers.items ≡ map (λ (it : RunningValue). it.tid) running.now) }
 {
-    match running {
-        Some(running) => Some(running.tid),
-        None => None,
-    }
+    running.iter().map(|it| it.tid).collect(alloc)
 }
 
-/// Whether the numbers of those that wait and of the one that runs rise, and none is above the last one.
-fn do_rise(items: &[Item], running: Option<u64>, last: u64) -> bool
-    ensures { IsTrue result
-        ↔ (ItemsInOrder last items.now None × InOrder last (option_to_list running) (number_after items.now None)) }
+/// The numbers of those that wait.
+fn item_numbers(alloc: Global, items: &[Item]) -> Result<Vec<u64>, NoMemory>
+    ensures { IfOk result (λ numbers. numbers.items ≡ tids items.now) }
+{
+    items.iter().map(|item| item.tid).collect(alloc)
+}
+
+/// The numbers of those that wait, and then these.
+fn all_numbers(alloc: Global, items: &[Item], run: &[u64]) -> Result<Vec<u64>, NoMemory>
+    ensures { IfOk result (λ numbers. numbers.items ≡ tids items.now ++ run.now) }
+{
+    let mut numbers = item_numbers(alloc, items)?;
+    numbers.extend_from_slice(run)?;
+    Ok(numbers)
+}
+
+/// Whether the numbers rise, and none is above the last one.
+fn do_rise(numbers: &[u64], last: u64) -> bool
+    ensures { IsTrue result ↔ InOrder last numbers.now None }
 {
     let mut previous: Option<u64> = None;
-    'items: for item in items {
-        if !comes_next(previous, item.tid, last) {
+    'numbers: for number in numbers {
+        if !comes_next(previous, *number, last) {
             return false;
         }
-        previous = Some(item.tid);
+        previous = Some(*number);
     }
-    match running {
-        Some(number) => comes_next(previous, number, last),
-        None => true,
-    }
+    true
 }
 
 /// Whether the number is above the one before it, if there is one, and not above the last one.
@@ -170,7 +183,7 @@ fn make_each(alloc: Global, tree: &mut Tree, items: &[Item]) -> Result<bool, NoM
 }
 
 /// Makes the acts in turn, if they suit the tree, and says whether they do. If not, nothing is said of it.
-fn make_all(alloc: Global, tree: &mut Tree, acts: &[Act]) -> Result<bool, NoMemory>
+pub(crate) fn make_all(alloc: Global, tree: &mut Tree, acts: &[Act]) -> Result<bool, NoMemory>
     ensures { IfOk result (λ made. MadeIf made acts.now tree.old tree.new) }
 {
     'acts: for act in acts {

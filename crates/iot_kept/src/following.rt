@@ -1,60 +1,143 @@
 //! Whether a change can follow those before it.
-ghost use Rattle.std.specs.Prelude.{◌≡◌, ◌↔◌, ◌+◌, ◌<◌, false, length, [], None, IsSome, IsTrue};
-ghost use Rattle.iot_tree.specs.declared.limits.TheConstants.{ACT_LIMIT as acts_limit};
-ghost use Rattle.iot_acts.specs.Traces.{ReadsHold};
-ghost use Rattle.iot_kept.specs.States.{acts_of, view};
-ghost use Rattle.iot_kept.specs.Changes.{CanFollow, HeadIs, IsSubmittedIn, IsSubmitted, IsInConflict, IsByHand, MayLeaveIn, MayLeave};
-ghost use Rattle.iot_kept.specs.Memory.{transaction_of, durable_state};
+ghost use Rattle.std.specs.Prelude.{◌≡◌, ◌↔◌, ◌+◌, ◌<◌, length, [], IsTrue, IfOk};
+ghost use Rattle.std.specs.List.{AllByRecursion};
+ghost use Rattle.iot_bodies.specs.declared.running.TheConstants.{RUN_LIMIT as run_limit};
+ghost use Rattle.iot_acts.specs.Traces.{ReadsHold, ActsHold};
+ghost use Rattle.iot_certify.specs.Verdicts.{IsLongest};
+ghost use Rattle.iot_kept.specs.States.{view};
+ghost use Rattle.iot_kept.specs.Changes.{RunIs, FirstRunIs, CanAct, CanFollow, HeadIs, IsSubmittedIn, IsSubmitted, IsInConflict, IsByHand};
+ghost use Rattle.iot_kept.specs.Changes.{MayLeaveIn, MayLeave};
+ghost use Rattle.iot_kept.specs.Memory.{transaction, transactions, durable_state, SeesOwn};
 ghost use Rattle.iot_kept.specs.Reading.{Suits};
 
 use crate::durable::Durable;
 use crate::guards::is_guarded;
 use crate::running::Running;
+use iot_bodies::RUN_LIMIT;
+use iot_certify::{Verdict, certify_acts, longest};
 use iot_changes::Change;
 use iot_queue::{Queue, Stage};
-use iot_tree::{ACT_LIMIT, Act, Read, Tree};
+use iot_text::NoMemory;
+use iot_tree::{ACT_LIMIT, Act, Acts, Read, Tree};
+use std::alloc::Global;
 
 impl Durable {
-    /// Whether the change can follow; the tree is the view of what is durable.
-    pub(crate) fn can_follow(&self, tree: &Tree, change: &Change) -> bool
-        requires { tree.now ≡ view (durable_state self.now) }
-        ensures { IsTrue result ↔ CanFollow (durable_state self.now) change.now }
+    /// Whether the change can follow; the tree is the view of what is durable. An end and a cut take a walk over the acts.
+    pub(crate) fn can_follow(
+        &self,
+        alloc: Global,
+        tree: &Tree,
+        change: &Change,
+    ) -> Result<bool, NoMemory>
+        requires view { tree.now ≡ view (durable_state self.now) }
+        requires sees { AllByRecursion SeesOwn self.now.running.items }
+        ensures { IfOk result (λ follows. IsTrue follows ↔ CanFollow (durable_state self.now) change.now) }
     {
         match change {
-            Change::Held(_) => !runs(&self.running) && is_empty(&self.queue),
-            Change::Begun { number, .. } => !runs(&self.running) && is_next(self.last, *number),
-            Change::Fetched(_) => runs(&self.running) && is_empty(&self.queue),
-            Change::Acted(act) => has_room(&self.running) && suits(tree, act),
-            Change::Ended => runs(&self.running),
-            Change::Cut => runs(&self.running),
-            Change::Conflicted => head_is_submitted(&self.queue),
-            Change::Resolved(..) => head_is_in_conflict(&self.queue),
-            Change::Repaired(_) => head_is_by_hand(&self.queue),
-            Change::Left => head_may_leave(&self.queue),
+            Change::Held(_) => Ok(is_empty(&self.queue)),
+            Change::Begun { number, .. } => {
+                Ok(has_room(self.running.as_slice()) && is_next(self.last, *number))
+            }
+            Change::Fetched { number, .. } => Ok(self.runs(*number) && is_empty(&self.queue)),
+            Change::Acted { number, act } => Ok(self.can_act(*number, act)),
+            Change::Ended { number } => self.holds(alloc, tree, *number),
+            Change::Cut { number, acts } => self.can_cut(alloc, tree, *number, *acts),
+            Change::Conflicted => Ok(head_is_submitted(&self.queue)),
+            Change::Resolved(..) => Ok(head_is_in_conflict(&self.queue)),
+            Change::Repaired(_) => Ok(head_is_by_hand(&self.queue)),
+            Change::Left => Ok(head_may_leave(&self.queue)),
+            Change::Again { number } => self.parts(alloc, tree, *number),
+        }
+    }
+
+    /// Whether the transaction with this number runs.
+    fn runs(&self, number: u64) -> bool
+        ensures { IsTrue result ↔ RunIs number (λ it. Unit {0}) (transactions self.now.running.items) }
+    {
+        match self.place_of(number) {
+            Some(_) => true,
+            None => false,
+        }
+    }
+
+    /// Whether it runs, and can do the act.
+    fn can_act(&self, number: u64, act: &Act) -> bool
+        requires { AllByRecursion SeesOwn self.now.running.items }
+        ensures { IsTrue result ↔ RunIs number (CanAct act.now) (transactions self.now.running.items) }
+    {
+        match self.place_of(number) {
+            Some(at) => does_suit(&self.running[at], act),
+            None => false,
+        }
+    }
+
+    /// Whether it runs, and its acts hold on the tree.
+    fn holds(&self, alloc: Global, t: &Tree, number: u64) -> Result<bool, NoMemory>
+        ensures { IfOk result (λ holds. IsTrue holds
+            ↔ RunIs number (λ it. ActsHold t.now it.acts) (transactions self.now.running.items)) }
+    {
+        match self.place_of(number) {
+            Some(at) => acts_hold(alloc, t, &self.running[at].acts),
+            None => Ok(false),
+        }
+    }
+
+    /// Whether it runs, and its acts do not hold on the tree.
+    fn parts(&self, alloc: Global, t: &Tree, number: u64) -> Result<bool, NoMemory>
+        ensures { IfOk result (λ parts. IsTrue parts
+            ↔ RunIs number (λ it. ActsHold t.now it.acts → ⊥) (transactions self.now.running.items)) }
+    {
+        match self.place_of(number) {
+            Some(at) => Ok(!acts_hold(alloc, t, &self.running[at].acts)?),
+            None => Ok(false),
+        }
+    }
+
+    /// Whether it is the first that runs, and this many of its acts, and no more, hold on the tree.
+    fn can_cut(&self, alloc: Global, t: &Tree, number: u64, acts: u64) -> Result<bool, NoMemory>
+        ensures { IfOk result (λ can. IsTrue can
+            ↔ FirstRunIs number (λ it. IsLongest t.now it.acts acts) (transactions self.now.running.items)) }
+    {
+        match self.running.first() {
+            Some(it) => is_cut(alloc, t, it, number, acts),
+            None => Ok(false),
         }
     }
 }
 
-/// Whether a transaction runs.
-fn runs(running: &Option<Running>) -> bool
-    ensures yes { IsTrue result ↔ IsSome (transaction_of running.now) }
-    ensures no { (result ≡ false) ↔ (transaction_of running.now ≡ None) }
+/// Whether it has this number, and this many of its acts, and no more, hold on the tree.
+fn is_cut(alloc: Global, t: &Tree, it: &Running, number: u64, acts: u64) -> Result<bool, NoMemory>
+    ensures { IfOk result (λ can. IsTrue can ↔ ((it.now.tid ≡ number) × IsLongest t.now it.now.acts acts)) }
 {
-    match running {
-        Some(_) => true,
-        None => false,
+    if it.tid != number {
+        return Ok(false);
+    }
+    Ok(longest(alloc, t, &it.acts)? == acts)
+}
+
+/// Whether the acts hold on the tree.
+fn acts_hold(alloc: Global, t: &Tree, acts: &Acts) -> Result<bool, NoMemory>
+    ensures { IfOk result (λ hold. IsTrue hold ↔ ActsHold t.now acts.now) }
+{
+    match certify_acts(alloc, t, acts)? {
+        Verdict::Holds => Ok(true),
+        Verdict::Differs { .. } => Ok(false),
     }
 }
 
-/// Whether a transaction runs that may do one more act.
-fn has_room(running: &Option<Running>) -> bool
-    ensures { IsTrue result
-        ↔ (IsSome (transaction_of running.now) × (length (acts_of (transaction_of running.now)) < acts_limit)) }
+/// Whether the transaction can do the act.
+fn does_suit(it: &Running, act: &Act) -> bool
+    requires { SeesOwn it.now }
+    ensures { IsTrue result ↔ CanAct act.now (transaction it.now) }
 {
-    match running {
-        Some(running) => (running.acts.len() as u64) < ACT_LIMIT,
-        None => false,
-    }
+    (it.acts.len() as u64) < ACT_LIMIT && suits(it.view(), act)
+}
+
+/// Whether one more may run.
+fn has_room(running: &[Running]) -> bool
+    ensures { IsTrue result ↔ (length (transactions running.now) < run_limit) }
+{
+    running.len() < RUN_LIMIT
 }
 
 /// Whether the number follows the last one.

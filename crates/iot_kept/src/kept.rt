@@ -2,12 +2,11 @@
 ghost use Rattle.std.specs.Prelude.{◌≡◌, ◌≢◌, ℕ, List, IfOk, IfErr, OnOk, IsErrOf, MatchResult, false, IsTrue};
 ghost use Rattle.std.specs.FinMap.{is_sorted};
 ghost use Rattle.std.specs.List.{AllByRecursion};
-ghost use Rattle.std.specs.Option.{option_copied};
 ghost use Rattle.iot_disk.specs.Disk.{armed_with, Only, SameImages};
 ghost use Rattle.iot_disk.specs.Faults.{CountsJournalFault};
 ghost use Rattle.iot_durable.specs.Causes.{HasCause, SaysDamaged, SaysForeign, TakesBytes};
 ghost use Rattle.iot_durable.specs.Damage.{IsDamagedAt};
-ghost use Rattle.iot_durable.specs.Standing.{EachOpens, IsFresh, StandWith, header, records_in};
+ghost use Rattle.iot_durable.specs.Standing.{EachOpens, IsFresh, StandWith};
 ghost use Rattle.iot_records.specs.Records.{ChangesNothing};
 ghost use Rattle.iot_slots.specs.Cells.{next};
 ghost use Rattle.iot_slots.specs.Decoding.{Foreign, NotStarted, decoded};
@@ -19,10 +18,10 @@ ghost use Rattle.iot_changes.specs.Rules.{IsChange};
 ghost use Rattle.iot_kept.specs.States.{State, view, AllHold, AreGuarded};
 ghost use Rattle.iot_kept.specs.Changes.{CanFollow, after};
 ghost use Rattle.iot_kept.specs.Kept.{IsHeldRecord};
-ghost use Rattle.iot_kept.specs.Rules.{rules};
+ghost use Rattle.iot_kept.specs.Rules.{header, rules};
 ghost use Rattle.iot_kept.specs.Stamps.{restamped};
-ghost use Rattle.iot_kept.specs.Memory.{transaction_of, class_of, class_after, classed, IsSecond};
-ghost use Rattle.iot_kept.specs.Standing.{StandFor, EachStands, EachStandsEither};
+ghost use Rattle.iot_kept.specs.Memory.{transactions, classes_of, classes_after, with_class, AreSecond, SeesOwn};
+ghost use Rattle.iot_kept.specs.Standing.{StandFor, EachStands, EachStandsEither, records_in};
 ghost use Rattle.iot_kept.specs.Spelled.{IsSpelledState};
 
 use crate::memory::Memory;
@@ -35,8 +34,8 @@ use iot_text::{NoMemory, Text};
 use iot_tree::{Access, Known, Tree};
 use std::alloc::Global;
 
-/// What is durable of a client, on a disk to which each change is appended as one record; and in memory besides, with the class of
-/// the running transaction, which no disk keeps. A checkpoint of the whole comes before a change if the records since the last one
+/// What is durable of a client, on a disk to which each change is appended as one record; and in memory besides, with the classes of
+/// the running transactions, which no disk keeps. A checkpoint of the whole comes before a change if the records since the last one
 /// have grown long.
 ///
 /// After an `Err` of `note`, or of `bring` other than `NoTree`, only `into_disk` says anything more: start again from the disk.
@@ -49,7 +48,7 @@ pub struct Kept<D: Disk> {
 }
 
 impl<D: Disk> Kept<D> {
-    ghost use Rattle.iot_kept.specs.Kept.{memory_of, state_of, stamps_of, class_in, disk_of, records_of, IsSynced};
+    ghost use Rattle.iot_kept.specs.Kept.{memory_of, state_of, stamps_of, classes_in, disk_of, records_of, IsSynced};
 
     /// Starts from a disk, which no one else writes, with the state of its checkpoint after its records; it runs no script. A disk on
     /// which nothing was started becomes that of a client that knows nothing yet. The disk comes back if this gives no client.
@@ -70,8 +69,8 @@ impl<D: Disk> Kept<D> {
         // No stamp of a server is known.
         ensures stamps { IfOk result (λ kept. stamps_of kept ≡ unstamped (state_of kept).held) }
 
-        // A transaction that runs is second class. All acts hold in turn, are guarded by their reads, and have spellings.
-        ensures class { IfOk result (λ kept. IsSecond (class_in kept)) }
+        // Transactions that run are second class. All acts hold in turn, are guarded by their reads, and have spellings.
+        ensures class { IfOk result (λ kept. AreSecond (classes_in kept)) }
         ensures hold { IfOk result (λ kept. AllHold (state_of kept)) }
         ensures guarded { IfOk result (λ kept. AreGuarded (state_of kept)) }
         ensures spelled { IfOk result (λ kept. IsSpelledState (state_of kept)) }
@@ -149,7 +148,8 @@ impl<D: Disk> Kept<D> {
             (after (state_of self.old) change)) }
 
         ensures state { OnOk result (state_of self.new ≡ after (state_of self.old) change) }
-        ensures class { OnOk result (class_in self.new ≡ class_after change (class_in self.old)) }
+        ensures class { OnOk result
+            (classes_in self.new ≡ classes_after change (state_of self.old).running (classes_in self.old)) }
         ensures stamps { OnOk result (stamps_of self.new ≡ restamped (state_of self.old).items (stamps_of self.old) change) }
         ensures records { OnOk result (records_of self.new ≡ next (records_of self.old)) }
         ensures synced { OnOk result (IsSynced D.medium self.new) }
@@ -163,16 +163,28 @@ impl<D: Disk> Kept<D> {
         Ok(())
     }
 
-    /// Puts the running transaction, if there is one, into this class. Writes nothing.
-    pub fn set_class(&mut self, first: bool)
-        ensures class { class_in self.new ≡ classed first (class_in self.old) }
+    /// All that run are second class from now on. Writes nothing.
+    pub fn all_second(&mut self)
+        ensures class { AreSecond (classes_in self.new) }
         ensures state { state_of self.new ≡ state_of self.old }
         ensures stamps { stamps_of self.new ≡ stamps_of self.old }
         ensures disk { disk_of self.new ≡ disk_of self.old }
         ensures records { records_of self.new ≡ records_of self.old }
         ensures synced { IsSynced D.medium self.old → IsSynced D.medium self.new }
     {
-        self.checkpointed.state_mut().set_class(first);
+        self.checkpointed.state_mut().all_second();
+    }
+
+    /// Puts the running transaction with this number, if it runs, into this class. Writes nothing.
+    pub fn set_class(&mut self, number: u64, first: bool)
+        ensures class { classes_in self.new ≡ with_class number first (state_of self.old).running (classes_in self.old) }
+        ensures state { state_of self.new ≡ state_of self.old }
+        ensures stamps { stamps_of self.new ≡ stamps_of self.old }
+        ensures disk { disk_of self.new ≡ disk_of self.old }
+        ensures records { records_of self.new ≡ records_of self.old }
+        ensures synced { IsSynced D.medium self.old → IsSynced D.medium self.new }
+    {
+        self.checkpointed.state_mut().set_class(number, first);
     }
 
     /// What is in memory.
@@ -198,7 +210,7 @@ impl<D: Disk> Kept<D> {
         self.memory().durable.held.known_with_stamps(alloc)
     }
 
-    /// The tree that scripts read: the held one after all that waits and runs.
+    /// The held tree after all that waits. A running transaction reads a view of its own.
     pub fn view(&self) -> &Tree
         requires { IsSynced D.medium self.now }
         ensures { result.now ≡ view (state_of self.now) }
@@ -220,12 +232,13 @@ impl<D: Disk> Kept<D> {
         &self.memory().durable.access
     }
 
-    /// The transaction that runs, if one does.
-    pub fn running(&self) -> Option<&Running>
-        ensures running { transaction_of (option_copied result) ≡ (state_of self.now).running }
-        ensures class { class_of (option_copied result) ≡ class_in self.now }
+    /// Those that run, by their numbers.
+    pub fn running(&self) -> &[Running]
+        ensures running { transactions result.now ≡ (state_of self.now).running }
+        ensures class { classes_of result.now ≡ classes_in self.now }
+        ensures sees { IsSynced D.medium self.now → AllByRecursion SeesOwn result.now }
     {
-        self.memory().durable.running.as_ref()
+        self.memory().durable.running.as_slice()
     }
 
     /// The number of the last transaction, 0 before the first.
@@ -250,7 +263,7 @@ impl<D: Disk> Kept<D> {
         ensures faults { D.medium.faults (disk_of self.new) ≡ D.medium.faults (disk_of self.old) }
         ensures state { state_of self.new ≡ state_of self.old }
         ensures stamps { stamps_of self.new ≡ stamps_of self.old }
-        ensures class { class_in self.new ≡ class_in self.old }
+        ensures class { classes_in self.new ≡ classes_in self.old }
         ensures records { records_of self.new ≡ records_of self.old }
         ensures synced { IsSynced D.medium self.old → IsSynced D.medium self.new }
     {
@@ -282,14 +295,15 @@ fn touches_held(change: &Change) -> bool
 {
     match change {
         Change::Held(_) => true,
-        Change::Fetched(_) => true,
+        Change::Fetched { .. } => true,
         Change::Conflicted => true,
         Change::Left => true,
         Change::Begun { .. } => false,
-        Change::Acted(_) => false,
-        Change::Ended => false,
-        Change::Cut => false,
+        Change::Acted { .. } => false,
+        Change::Ended { .. } => false,
+        Change::Cut { .. } => false,
         Change::Resolved(..) => false,
         Change::Repaired(_) => false,
+        Change::Again { .. } => false,
     }
 }

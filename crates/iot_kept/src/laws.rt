@@ -8,7 +8,8 @@ pub fn pending_reads_stay()
     ensures { PendingReadsStay }
 {}
 
-/// A transaction that was cut is its prefix: it waits with the acts that it had done, in their order, and its budget is their number.
+/// A transaction that was cut is its prefix: it waits with the first of the acts that it had done, in their order, and its budget is their
+/// number.
 pub fn a_cut_is_its_prefix()
     ensures { ACutIsItsPrefix }
 {}

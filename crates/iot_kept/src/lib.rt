@@ -13,8 +13,10 @@ mod laws;
 mod memory;
 mod recorded;
 mod running;
+mod versions;
 
 pub use bringing::{BringFault, Purpose};
+pub use iot_bodies::RUN_LIMIT;
 pub use iot_changes::Change;
 pub use iot_disk::{JournalFault, StartFault};
 pub use kept::Kept;

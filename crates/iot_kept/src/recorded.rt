@@ -7,13 +7,12 @@ ghost use Rattle.iot_kept.specs.States.{State};
 
 use crate::body::read_body;
 use crate::memory::Memory;
-use crate::running::{acts_of, order_of};
+use crate::versions::read_change;
 use iot_bodies::put_client;
 use iot_changes::{Change, put_change};
 use iot_durable::Recorded;
 use iot_slots::Version;
 use iot_text::{NoMemory, Text};
-use iot_versions::read_change;
 use std::alloc::Global;
 
 impl Recorded for Memory {
@@ -31,6 +30,10 @@ impl Recorded for Memory {
 
     ghost Makes = { ChangesMemory };
 
+    fn header() -> [u8; 8] {
+        *b"IOTSLOT2"
+    }
+
     fn opening(alloc: Global) -> Result<Memory, NoMemory> {
         Memory::new(alloc)
     }
@@ -42,8 +45,7 @@ impl Recorded for Memory {
             durable.held.tree(),
             durable.queue.items(),
             &durable.access,
-            order_of(&durable.running),
-            acts_of(&durable.running),
+            durable.running.as_slice(),
             durable.last,
             out,
         )

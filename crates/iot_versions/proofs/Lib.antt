@@ -1,5 +1,3 @@
-mod ChangesLaws
-mod ClientsLaws
 mod FrontLaws
 pub mod OneLaws
 mod ReadingLaws

@@ -99,31 +99,13 @@ anew bytes before mid now rows seen end fit is seen_is mid_is now_is =
       now_is ∙ (λ i. mid_rows i ++ rest_is i) ∙ append_assoc before (rows_spelling rows) (drop end bytes),
     )
 
--- what is seen of the text then
-pub record RespellsTo (start old seen : List ℕ) : Type 0 where
-  pub new : List ℕ
-  pub respells : Respells old new
-  pub seen_is : seen ≡ start ++ new
-
-pub respelled_to : (is : Bool) (old before now seen start : List ℕ) → is ≡ true → before ≡ start → seen ≡ now
-    → RespellsIf is old before now → RespellsTo start old seen
-respelled_to true old before now seen start is before_is seen_is r = record {
-  new = r.0;
-  respells = r.1;
-  seen_is = seen_is ∙ r.2 ∙ ap (λ (b : List ℕ). b ++ r.0) before_is;
-}
-respelled_to false old before now seen start is before_is seen_is r = absurd cc
-
--- the text begins with one byte
-pub begun : (empty start : List ℕ) (tag : ℕ) → empty ≡ [] → start ≡ empty ++ tag ∷ [] → start ≡ tag ∷ []
-begun empty start tag none is = is ∙ ap (λ (t : List ℕ). t ++ tag ∷ []) none
-
--- or with none
+-- what is seen of the text then, if it was empty before
 pub respelled_now : (is : Bool) (old before now seen : List ℕ) → is ≡ true → before ≡ [] → seen ≡ now → RespellsIf is old before now
     → Respells old seen
-respelled_now is old before now seen is_true before_is seen_is r =
-    let to = respelled_to is old before now seen [] is_true before_is seen_is r in
-    subst (λ (new : List ℕ). Respells old new) (sym to.seen_is) to.respells
+respelled_now true old before now seen is before_is seen_is r =
+    let same : seen ≡ r.0 = seen_is ∙ r.2 ∙ ap (λ (b : List ℕ). b ++ r.0) before_is in
+    subst (λ (new : List ℕ). Respells old new) (sym same) r.1
+respelled_now false old before now seen is before_is seen_is r = absurd cc
 
 -- there are none
 pub none_first : (bytes before now : List ℕ) → length bytes < 2 ^ 64 → IsTaken (list_at old_row_at bytes 0) None

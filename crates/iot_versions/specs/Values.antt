@@ -1,10 +1,9 @@
 -- Which values version 1 has a spelling for: no mode is on, none is asked for or changed, and contents are few.
-use Rattle.std.specs.Prelude.{ℕ, Bool, true, false, nat_le, ◌&&◌, List, length, Option, Some, None}
+use Rattle.std.specs.Prelude.{ℕ, Bool, true, false, nat_le, ◌&&◌, List, length}
 use Rattle.std.specs.FinMap.{entries}
 use Rattle.std.specs.List.{list_all}
 use Rattle.iot_tree.specs.Tree.{Nodes, Path, Row}
 use Rattle.iot_tree.specs.declared.access.Access.{Access}
-use Rattle.iot_tree.specs.declared.acts.Act.{Act}
 use Rattle.iot_tree.specs.declared.acts.Read.{Read}
 use Rattle.iot_tree.specs.declared.labels.Label.{Label}
 use Rattle.iot_tree.specs.declared.nodes.Mode.{Mode}
@@ -17,15 +16,6 @@ use Rattle.iot_tree.specs.declared.questions.Question.{Question}
 use Rattle.iot_tree.specs.declared.questions.Question.TheVariants as asks
 use Rattle.iot_tree.specs.declared.updates.Update.{Update}
 use Rattle.iot_tree.specs.declared.updates.Update.TheVariants.{Put, MakeDir, Remove, Move, SetMode}
-use Rattle.iot_queue.specs.declared.items.Resolution.{Resolution}
-use Rattle.iot_queue.specs.declared.items.Stage.{Stage}
-use Rattle.iot_queue.specs.declared.items.Stage.TheVariants.{Waiting as Waits, Conflict, Manual, Resolved}
-use Rattle.iot_changes.specs.declared.changes.Change.{Change}
-use Rattle.iot_changes.specs.declared.changes.Change.TheVariants.{Held, Begun, Fetched, Acted, Ended, Cut, Conflicted}
-use Rattle.iot_changes.specs.declared.changes.Change.TheVariants.{Resolved as WasResolved, Repaired, Left}
-use Rattle.iot_bodies.specs.declared.client.ClientBody.{ClientBody}
-use Rattle.iot_bodies.specs.declared.client.Running.{Running}
-use Rattle.iot_bodies.specs.declared.client.Waiting.{Waiting}
 use Rattle.iot_bodies.specs.declared.server.ServerBody.{ServerBody}
 use Rattle.iot_versions.specs.declared.values.TheConstants.{OLD_CONTENTS}
 
@@ -81,13 +71,6 @@ is_old_update (Remove path) = true
 is_old_update (Move path other) = true
 is_old_update (SetMode path mode) = false
 
-abbrev pub has_old_update : Option Update → Bool
-has_old_update None = true
-has_old_update (Some update) = is_old_update update
-
-abbrev pub is_old_act : Act → Bool
-is_old_act act = list_all is_old_read act.reads && has_old_update act.update
-
 abbrev pub is_old_access : Access → Bool
 is_old_access access = list_all is_old_read access.reads && list_all is_old_update access.updates
 
@@ -97,38 +80,5 @@ is_old_label label = list_all is_old_file label.kept
 abbrev pub is_old_commit : Label → Access → Bool
 is_old_commit label access = is_old_label label && is_old_access access
 
-abbrev pub is_old_resolution : Resolution → Bool
-is_old_resolution resolution = list_all is_old_file resolution.kept && list_all is_old_act resolution.acts
-
--- ---- bodies and changes
-
 abbrev pub is_old_server : ServerBody → Bool
 is_old_server body = is_old_tree body.tree && list_all is_old_label body.labels
-
-abbrev pub is_old_stage : Stage → Bool
-is_old_stage Waits = true
-is_old_stage Conflict = true
-is_old_stage Manual = true
-is_old_stage (Resolved resolution) = is_old_resolution resolution
-
-abbrev pub is_old_waiting : Waiting → Bool
-is_old_waiting it = list_all is_old_act it.item.acts && (is_old_stage it.item.stage && is_old_access it.access)
-
-abbrev pub has_old_running : Option Running → Bool
-has_old_running None = true
-has_old_running (Some it) = list_all is_old_act it.acts
-
-abbrev pub is_old_client : ClientBody → Bool
-is_old_client body = is_old_tree body.held && (list_all is_old_waiting body.items && has_old_running body.running)
-
-abbrev pub is_old_change : Change → Bool
-is_old_change (Held tree) = is_old_tree tree
-is_old_change (Begun number script option) = true
-is_old_change (Fetched tree) = is_old_tree tree
-is_old_change (Acted act) = is_old_act act
-is_old_change Ended = true
-is_old_change Cut = true
-is_old_change Conflicted = true
-is_old_change (WasResolved resolution access) = is_old_resolution resolution && is_old_access access
-is_old_change (Repaired script) = true
-is_old_change Left = true

@@ -1,9 +1,9 @@
 //! Bodies of checkpoints.
 ghost use Rattle.std.specs.Prelude.{IfOk};
-ghost use Rattle.iot_versions.specs.Versions.{ReadsAs, SpellsClient, SpellsServer};
+ghost use Rattle.iot_versions.specs.Versions.{ReadsAs, SpellsServer};
 
-use crate::{clients, servers};
-use iot_bodies::{ClientBody, ServerBody};
+use crate::servers;
+use iot_bodies::ServerBody;
 use iot_slots::Version;
 use iot_text::NoMemory;
 use std::alloc::Global;
@@ -19,19 +19,5 @@ pub fn read_server(
     match version {
         Version::One => servers::read_old(alloc, bytes),
         Version::Two => servers::read_new(alloc, bytes),
-    }
-}
-
-/// The client's body that the bytes spell in this version, if they spell one.
-pub fn read_client(
-    alloc: Global,
-    version: Version,
-    bytes: &[u8],
-) -> Result<Option<ClientBody>, NoMemory>
-    ensures { IfOk result (ReadsAs (SpellsClient version bytes.now)) }
-{
-    match version {
-        Version::One => clients::read_old(alloc, bytes),
-        Version::Two => clients::read_new(alloc, bytes),
     }
 }

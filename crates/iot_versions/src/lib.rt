@@ -1,4 +1,4 @@
-//! Bodies of checkpoints, changes and commits, read in either version of the format.
+//! What a server's disk holds, read in either version of the format: bodies of checkpoints, and commits.
 //!
 //! Version 1 is only read. It is version 2 without modes: no file has one, no run asks for one or changes one, and contents are
 //! of at most 8,192 bytes. What is spelled otherwise are trees alone, whose files have no byte for the mode. They are spelled
@@ -6,14 +6,11 @@
 #![tactic(auto)]
 
 mod bodies;
-mod changes;
-mod clients;
 mod commits;
 mod respell;
 mod rows;
 mod servers;
 mod values;
 
-pub use bodies::{read_client, read_server};
-pub use changes::read_change;
+pub use bodies::read_server;
 pub use commits::is_old_commit;

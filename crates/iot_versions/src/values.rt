@@ -2,12 +2,10 @@
 ghost use Rattle.std.specs.Prelude.{◌≡◌};
 ghost use Rattle.std.specs.List.{list_all};
 ghost use Rattle.iot_versions.specs.Values.{is_off, is_old_contents, is_old_file, is_old_node, is_old_row, is_old_question};
-ghost use Rattle.iot_versions.specs.Values.{is_old_answer, is_old_read, is_old_update, has_old_update, is_old_act, is_old_access};
-ghost use Rattle.iot_versions.specs.Values.{is_old_label, is_old_resolution};
+ghost use Rattle.iot_versions.specs.Values.{is_old_answer, is_old_read, is_old_update, is_old_access, is_old_label};
 
-use iot_queue::Resolution;
 use iot_text::Path;
-use iot_tree::{Access, Act, Answer, Blob, Label, Mode, Node, Question, Read, Update};
+use iot_tree::{Access, Answer, Blob, Label, Mode, Node, Question, Read, Update};
 
 /// The most bytes that contents have in version 1.
 pub(crate) const OLD_CONTENTS: usize = 8_192;
@@ -92,30 +90,7 @@ fn are_old_updates(updates: &[Update]) -> bool
     updates.iter().all(|update| is_old_update(update))
 }
 
-fn has_old_update(update: &Option<Update>) -> bool
-    ensures { result ≡ has_old_update update.now }
-{
-    match update {
-        Some(update) => is_old_update(update),
-        None => true,
-    }
-}
-
-/// Whether the act has a spelling.
-pub(crate) fn is_old_act(act: &Act) -> bool
-    ensures { result ≡ is_old_act act.now }
-{
-    are_old_reads(act.reads.as_slice()) && has_old_update(&act.update)
-}
-
-/// Whether each act has one.
-pub(crate) fn are_old_acts(acts: &[Act]) -> bool
-    ensures { result ≡ list_all is_old_act acts.now }
-{
-    acts.iter().all(|act| is_old_act(act))
-}
-
-/// Whether the access has one.
+/// Whether the access has a spelling.
 pub(crate) fn is_old_access(access: &Access) -> bool
     ensures { result ≡ is_old_access access.now }
 {
@@ -140,11 +115,4 @@ pub(crate) fn are_old_labels(labels: &[Label]) -> bool
     ensures { result ≡ list_all is_old_label labels.now }
 {
     labels.iter().all(|label| is_old_label(label))
-}
-
-/// Whether the resolution has one.
-pub(crate) fn is_old_resolution(resolution: &Resolution) -> bool
-    ensures { result ≡ is_old_resolution resolution.now }
-{
-    are_old_files(resolution.kept.as_slice()) && are_old_acts(resolution.acts.as_slice())
 }

@@ -1,10 +1,7 @@
-use Rattle.std.proofs.Common.{None, Some}
-use Rattle.iot_queue.specs.declared.items.Item.{Item}
+use Rattle.std.proofs.Common.{ℕ, Some, None}
 use Rattle.iot_kept.specs.Reading.{ComesNext}
 use Rattle.iot_kept.proofs.TurnsLaws.{OnWay}
 use Rattle.iot_kept.proofs.checks.do_rise.Given as goal
 
-abbrev pub invariant-items : goal.invariant-items
-invariant-items l =
-    OnWay (λ previous (item : Item). ComesNext l.last previous item.tid) (λ previous (item : Item). Some item.tid) l.items None l.item-index
-    l.previous
+abbrev pub invariant-numbers : goal.invariant-numbers
+invariant-numbers l = OnWay (ComesNext l.last) (λ previous (n : ℕ). Some n) l.numbers None l.number-index l.previous

@@ -10,23 +10,29 @@ use Rattle.iot_kept.proofs.kept.Kept.bring.Goals as goal
 
 pub record_for-requires-clause-spells : goal.record_for-requires-clause-spells
 record_for-requires-clause-spells g c =
-    change_spelled c.in_ok-held.held (stamps_of c.args.self.now) c.merge.new.held c.args.changes c.args.purpose c.in_ok-copy.field-0
-    c.brought_for-change.result (c.in_ok-held.ensures ∙ ap (λ (m : Memory). m.durable.held) c.state.ensures)
+    change_spelled (state_of c.args.self.now) c.in_ok-held.held (stamps_of c.args.self.now) c.merge.new.held c.args.changes c.args.purpose
+    c.in_ok-copy.field-0 (state_of c.args.self.now).held c.brought_for-change.result
+    (c.in_ok-held.ensures ∙ ap (λ (m : Memory). m.durable.held) c.state.ensures)
+    (synced_spelled g.D.Disk.medium c.args.self.now c.requires.synced) c.requires.follows
     (synced_spelled g.D.Disk.medium c.args.self.now c.requires.synced).held c.requires.changes c.in_ok-merge.ensures.stamps
     c.in_ok-merge.ensures.tree (c.in_ok-copy.ensures ∙ c.tree.ensures.value) c.brought_for-change.ensures
 
 pub note_spelled-requires-clause-change : goal.note_spelled-requires-clause-change
 note_spelled-requires-clause-change g c =
-    change_spelled c.in_ok-held.held (stamps_of c.args.self.now) c.merge.new.held c.args.changes c.args.purpose c.in_ok-copy.field-0
-    c.brought_for-change.result (c.in_ok-held.ensures ∙ ap (λ (m : Memory). m.durable.held) c.state.ensures)
+    change_spelled (state_of c.args.self.now) c.in_ok-held.held (stamps_of c.args.self.now) c.merge.new.held c.args.changes c.args.purpose
+    c.in_ok-copy.field-0 (state_of c.args.self.now).held c.brought_for-change.result
+    (c.in_ok-held.ensures ∙ ap (λ (m : Memory). m.durable.held) c.state.ensures)
+    (synced_spelled g.D.Disk.medium c.args.self.now c.requires.synced) c.requires.follows
     (synced_spelled g.D.Disk.medium c.args.self.now c.requires.synced).held c.requires.changes c.in_ok-merge.ensures.stamps
     c.in_ok-merge.ensures.tree (c.in_ok-copy.ensures ∙ c.tree.ensures.value) c.brought_for-change.ensures
 
 pub note_spelled-requires-clause-spelled : goal.note_spelled-requires-clause-spelled
 note_spelled-requires-clause-spelled g c =
     let has =
-    change_spelled c.in_ok-held.held (stamps_of c.args.self.now) c.merge.new.held c.args.changes c.args.purpose c.in_ok-copy.field-0
-    c.brought_for-change.result (c.in_ok-held.ensures ∙ ap (λ (m : Memory). m.durable.held) c.state.ensures)
+    change_spelled (state_of c.args.self.now) c.in_ok-held.held (stamps_of c.args.self.now) c.merge.new.held c.args.changes c.args.purpose
+    c.in_ok-copy.field-0 (state_of c.args.self.now).held c.brought_for-change.result
+    (c.in_ok-held.ensures ∙ ap (λ (m : Memory). m.durable.held) c.state.ensures)
+    (synced_spelled g.D.Disk.medium c.args.self.now c.requires.synced) c.requires.follows
     (synced_spelled g.D.Disk.medium c.args.self.now c.requires.synced).held c.requires.changes c.in_ok-merge.ensures.stamps
     c.in_ok-merge.ensures.tree (c.in_ok-copy.ensures ∙ c.tree.ensures.value) c.brought_for-change.ensures in
     is_record c.brought_for-change.result c.as_bytes.result.now has (c.as_bytes.ensures ∙ c.in_ok-text.ensures.is)

@@ -5,4 +5,4 @@ use Rattle.iot_kept.proofs.recorded.MemoryRecorded.spell.Goals as goal
 
 pub returns : goal.returns
 returns c =
-    on_ok_weaker c.put_client.result (λ spelled. body_spelled _ _ c.requires.state (search (rules, spelled))) c.put_client.ensures
+    on_ok_weaker c.put_client.result (λ spelled. body_spelled _ c.args.self.now c.requires.state (search (rules, spelled))) c.put_client.ensures
