@@ -1,20 +1,27 @@
--- What one more act makes of a client.
-use Rattle.std.proofs.Common.{◌≡◌, ℕ, Bool, true, false, List, [], ◌∷◌, Option, Some, None, refl, sym, ap, subst, ◌∙◌}
-use Rattle.std.specs.Prelude.{IsSome, IsErrOf, IsErrAnd, Result, Ok, Err}
+-- What one more act makes of a running transaction.
+use Rattle.std.proofs.Common.{◌≡◌, ℕ, ◌<◌, Bool, true, false, List, [], ◌∷◌, ◌++◌, Option, Some, None, length, length-append, arith}
+use Rattle.std.proofs.Common.{refl, sym, ap, subst, ◌∙◌}
+use Rattle.std.specs.FinMap.{empty}
+use Rattle.std.specs.Prelude.{IsSomeAnd, IsErrOf, IsErrAnd, Result, Ok, Err}
 use Rattle.iot_acts.specs.Guards.{IsGuarded}
 use Rattle.iot_acts.specs.Traces.{ActsHold, after_update}
 use Rattle.iot_tree.specs.Tree.{Nodes, Path}
 use Rattle.iot_tree.specs.declared.acts.Act.{Act}
+use Rattle.iot_tree.specs.declared.limits.TheConstants.{ACT_LIMIT}
 use Rattle.iot_tree.specs.declared.want.Want.TheVariants as wants
 use Rattle.iot_lang.specs.Code.{Code}
+use Rattle.iot_lang.specs.Scripts.{IsScript}
 use Rattle.iot_exec.specs.Places.{is_over}
-use Rattle.iot_exec.specs.Execs.{IsNextAt, RunsOn, place, kept_by, act_count}
+use Rattle.iot_exec.specs.Execs.{IsNextAt, IsRunning, RunsOn, place, kept_by, act_count, next_miss}
+use Rattle.iot_exec.proofs.RunLaws.{goes_on as running_on}
 use Rattle.iot_changes.specs.declared.changes.Change.TheVariants.{Acted}
-use Rattle.iot_kept.specs.States.{State, view}
-use Rattle.iot_kept.specs.Changes.{CanFollow}
-use Rattle.iot_client.specs.Ties.{Live, live, state_of, stamps_of, place_of}
-use Rattle.iot_client.specs.Calls.{has_ended, missed_by, CanActIfAny, CutsOff, CutsOffNextIfAny, Notes, StepIsIfAny}
-use Rattle.iot_client.specs.Doing.{IsAble, Did, DidIfAny, DecidesIfAny}
+use Rattle.iot_kept.specs.States.{Transaction, State, own_view}
+use Rattle.iot_kept.specs.Changes.{with_act}
+use Rattle.iot_kept.specs.Changes as kept
+use Rattle.iot_kept.proofs.StatesLaws.{after_more}
+use Rattle.iot_client.specs.Ties.{code_in, IsRun, IsRunIfAny, stamps_of, place_of}
+use Rattle.iot_client.specs.Calls.{has_ended, missed, missed_by, next_acts, ChangesClasses, CanAct, CutsOff, CutsOffNext, Notes, StepIs}
+use Rattle.iot_client.specs.Doing.{GoesOn, IsAble, Did, DidIfAny, DecidesIfAny}
 use Rattle.iot_wire.specs.Meanings.{IsRefresh}
 use Rattle.iot_client.specs.declared.client.Client.{Client}
 use Rattle.iot_client.specs.declared.fault.ClientFault.{ClientFault}
@@ -23,8 +30,7 @@ use Rattle.iot_client.specs.declared.interpreter.Decided.TheVariants as decides
 use Rattle.iot_client.specs.declared.interpreter.Done.{Done}
 use Rattle.iot_client.specs.declared.interpreter.Interpreter.{Interpreter}
 use Rattle.iot_client.specs.declared.steps.Step.TheVariants as steps
-use Rattle.iot_client.proofs.StepsLaws.{Facts, facts, ended_is, act_follows, next_done, runs_after, did, can_act, misses}
-use Rattle.iot_client.proofs.TiesLaws.{RunsIn}
+use Rattle.iot_client.proofs.StepsLaws.{ended_is, next_done, missed_is}
 
 -- ---- what came of the next act, by the class of its transaction
 
@@ -48,10 +54,12 @@ did_act i j t act done same next runs holds guarded is =
     (record { same = same; next = next; goes_on = runs; holds = holds; guarded = guarded; counted = refl; over = refl })
 
 -- the same of an equal tree
-pub decided_on : (first : Bool) (i j : Option Interpreter) (t u : Nodes) (one other : Decided) → one ≡ other → t ≡ u
-    → DecidesIfAny first i t one j → DecidesIfAny first i u other j
-decided_on first i j t u one other is same decided =
-    subst (λ (t : Nodes). DecidesIfAny first i t other j) same (subst (λ (d : Decided). DecidesIfAny first i t d j) is decided)
+pub decided_on : (first other : Bool) (o i j : Option Interpreter) (t u : Nodes) (was is : Decided) → first ≡ other → o ≡ i → t ≡ u
+    → was ≡ is → DecidesIfAny first o t was j → DecidesIfAny other i u is j
+decided_on first other o i j t u was is class interpreter tree same decided =
+    subst (λ (f : Bool). DecidesIfAny f i u is j) class
+    (subst (λ (k : Option Interpreter). DecidesIfAny first k u is j) interpreter
+    (subst (λ (t : Nodes). DecidesIfAny first o t is j) tree (subst (λ (d : Decided). DecidesIfAny first o t d j) same decided)))
 
 pub decided_did : (first : Bool) (i j : Option Interpreter) (t : Nodes) (done : Done) → DecidesIfAny first i t (decides.Did done) j
     → DidIfAny i t done j
@@ -59,94 +67,123 @@ decided_did first None j t done decided = absurd decided
 decided_did first (Some i) None t done decided = absurd decided
 decided_did first (Some i) (Some j) t done decided = decided.1
 
--- it could be done
-pub decided_can : (state : State) (class : Option Bool) (i j : Option Interpreter) (first : Bool) (t : Nodes) (done : Done)
-    → RunsIn state class i → IsSome state.running → ((f : Bool) → class ≡ Some f → first ≡ f) → t ≡ view state → IsAble i
-    → DecidesIfAny first i t (decides.Did done) j → CanActIfAny state (live class i)
-decided_can state class None j first t done runs some is sees able decided = absurd able
-decided_can state class (Some i) None first t done runs some is sees able decided = absurd decided
-decided_can state class (Some i) (Some j) first t done runs some is sees able decided =
-    can_act state class i runs some first is t sees able.0 able.1 decided.0
-
+-- it was not done, and so it did nothing
 pub decided_stays : (first : Bool) (i j : Option Interpreter) (t : Nodes) (path : Path) → DecidesIfAny first i t (decides.Missed path) j
     → j ≡ i
 decided_stays first None j t path decided = absurd decided
 decided_stays first (Some i) None t path decided = absurd decided
 decided_stays first (Some i) (Some j) t path decided = ap (λ (i : Interpreter). Some i) decided.1
 
-decided_fetch : {D : Type 0} (client : Client D) (class : Option Bool) (i j : Option Interpreter) (first : Bool) (t : Nodes) (path : Path)
-    (request : List ℕ) → RunsIn (state_of client) class i → IsSome (state_of client).running → ((f : Bool) → class ≡ Some f → first ≡ f)
-    → t ≡ view (state_of client) → IsAble i → DecidesIfAny first i t (decides.Missed path) j
-    → IsRefresh (place_of client) (stamps_of client) (wants.Path path) request
-    → StepIsIfAny client (live class i) (steps.Fetch request path) client
-decided_fetch client class None j first t path request runs some is sees able decided asks = absurd able
-decided_fetch client class (Some i) None first t path request runs some is sees able decided asks = absurd decided
-decided_fetch client class (Some i) (Some j) first t path request runs some is sees able decided asks =
-    misses (state_of client) class i runs some first is t sees able.0 able.1 client path request refl decided.0 asks
+pub same_code : (i j : Option Interpreter) (t : Nodes) (done : Done) → DidIfAny i t done j → code_in j ≡ code_in i
+same_code None j t done did = absurd did
+same_code (Some i) None t done did = absurd did
+same_code (Some i) (Some j) t done did = ap (λ (code : Code). Some code) did.same
 
--- it misses something, and nothing has changed
-pub decided_misses : {D : Type 0} (client : Client D) (class : Option Bool) (j : Option Interpreter) (first : Bool) (t : Nodes)
-    (path : Path) (request : List ℕ) → RunsIn (state_of client) class client.interpreter → IsSome (state_of client).running
-    → ((f : Bool) → class ≡ Some f → first ≡ f) → t ≡ view (state_of client) → IsAble client.interpreter
-    → DecidesIfAny first client.interpreter t (decides.Missed path) j
-    → IsRefresh (place_of client) (stamps_of client) (wants.Path path) request
-    → StepIsIfAny client (live class client.interpreter) (steps.Fetch request path) (record client { interpreter = j })
-decided_misses client class j first t path request runs some is sees able decided asks =
-    subst
-    (λ (i : Option Interpreter).
-    StepIsIfAny client (live class client.interpreter) (steps.Fetch request path) (record client { interpreter = i }))
-    (sym (decided_stays first client.interpreter j t path decided))
-    (decided_fetch client class client.interpreter j first t path request runs some is sees able decided asks)
+-- ---- a path that is missed
 
-pub follows : (state : State) (class : Option Bool) (i j : Option Interpreter) (done : Done) → IsSome state.running
-    → CanActIfAny state (live class i) → DidIfAny i (view state) done j → CanFollow state (Acted done.act)
-follows state class None j done some can did = absurd did
-follows state class (Some i) None done some can did = absurd did
-follows state class (Some i) (Some j) done some can did =
-    act_follows state (live class (Some i)) done.act can some did.holds did.guarded
+found : (first : Bool) (path : Path) (other : Option Path) → Some path ≡ missed_by first other → (first ≡ true) × (other ≡ Some path)
+found true path other is = (refl, sym is)
+found false path other is = absurd cc
 
-abbrev alive : Bool → Code → Live
-alive first code = record { first = first; code = code }
+not_found : (first : Bool) (other : Option Path) → None ≡ missed_by first other → first ≡ true → other ≡ None
+not_found true other is first = sym is
+not_found false other is first = absurd cc
 
-pub lives_on : (state : State) (x y : Option Bool) (i j : Option Interpreter) (done : Done) → y ≡ x → DidIfAny i (view state) done j
-    → live y j ≡ live x i
-lives_on state x y None j done same did = absurd did
-lives_on state x y (Some i) None done same did = absurd did
-lives_on state None y (Some i) (Some j) done same did = ap (λ (class : Option Bool). live class (Some j)) same
-lives_on state (Some first) y (Some i) (Some j) done same did =
-    ap (λ (class : Option Bool). live class (Some j)) same
-    ∙ ap (λ (code : Code). Some (alive first code)) did.same
+-- ---- of one that runs, whose script has not ended
 
-pub steps_on : {D : Type 0} (old new : Client D) (x y : Option Bool) (i j : Option Interpreter) (done : Done)
-    → RunsIn (state_of old) x i → IsSome (state_of old).running → CanActIfAny (state_of old) (live x i)
-    → DidIfAny i (view (state_of old)) done j → Notes (Acted done.act) old new → RunsIn (state_of new) y j
-    → StepIsIfAny old (live x i) (steps.Acted done.acts done.ended) new
-steps_on old new x y None j done runs some can act notes later = absurd act
-steps_on old new x y (Some i) None done runs some can act notes later = absurd act
-steps_on old new x y (Some i) (Some j) done runs some can act notes later =
-    let known : Facts (state_of new) y j =
-    facts (state_of new) y j later (runs_after (state_of old) (state_of new) done.act some notes.state) in
-    let over : has_ended (state_of new) i.script.value ≡ is_over (place j.exec) =
-    ap (has_ended (state_of new)) (sym act.same) ∙ ended_is (state_of new) y j known in
-    did old new x i j (after_update (view (state_of old)) done.act.update) done.act done.acts done.ended
-    (facts (state_of old) x i runs some) can notes act.next act.goes_on act.counted act.over over
+module _ (it : Transaction) (first : Bool) where
+  -- its interpreter may do one more act
+  pub is_able : (i : Option Interpreter) → IsRunIfAny it i → IsSomeAnd (code_in i) (GoesOn it first) → IsAble i
+  is_able None runs goes = absurd goes
+  is_able (Some i) runs goes = (
+    sym (ended_is it i runs) ∙ goes.0,
+    subst (λ (n : ℕ). n < ACT_LIMIT) (sym runs.run.counted) goes.1,
+  )
 
--- if the record of the act is in doubt, it is that of the next act
-pub next_in_doubt : (state : State) (class : Option Bool) (i j : Option Interpreter) (done : Done) (records : ℕ)
-    (images : List ℕ → Type 0) → RunsIn state class i → IsSome state.running → CanActIfAny state (live class i)
-    → DidIfAny i (view state) done j → CutsOff (Acted done.act) state records images
-    → CutsOffNextIfAny (live class i) state records images
-next_in_doubt state class None j done records images runs some can act cuts = absurd act
-next_in_doubt state class (Some i) None done records images runs some can act cuts = absurd act
-next_in_doubt state None (Some i) (Some j) done records images runs some can act cuts = absurd can
-next_in_doubt state (Some first) (Some i) (Some j) done records images runs some can act cuts = record {
-  can = can;
-  act = done.act;
-  next =
-      next_done state (Some first) i done.act (place j.exec) (after_update (view state) done.act.update)
-      (facts state (Some first) i runs some) act.next;
-  cuts_off = cuts;
-}
+  -- the act can be done
+  pub can_do : (i j : Option Interpreter) (done : Done) → IsSomeAnd (code_in i) (GoesOn it first) → DidIfAny i (own_view it) done j
+      → kept.CanAct done.act it
+  can_do None j done goes did = absurd goes
+  can_do (Some i) None done goes did = absurd did
+  can_do (Some i) (Some j) done goes did = (goes.1, did.guarded, did.holds.1, did.holds.0)
+
+  did_run : (i j : Interpreter) (done : Done) → IsRun it i → length it.acts < ACT_LIMIT → Did i (own_view it) done j
+      → IsRun (with_act done.act it) j
+  did_run i j done runs within did =
+      let acts : List Act = it.acts ++ done.act ∷ [] in
+      record {
+        run =
+            subst (λ (t : Nodes). IsRunning j.script.value empty it.base (length acts) acts j.exec t)
+            (sym (after_more it.acts done.act it.base))
+            (subst
+            (λ (code : Code). IsRunning code empty it.base (length acts) acts j.exec (after_update (own_view it) done.act.update))
+            (sym did.same)
+            (running_on i.script.value empty it.base (after_update (own_view it) done.act.update) it.acts acts done.act j.exec refl
+            (did.goes_on i.script.value empty it.base (length it.acts) it.acts runs.run)));
+        few = omega (arith, length-append it.acts (done.act ∷ []), within);
+        script = subst IsScript (sym did.same) runs.script;
+      }
+
+  pub acted_runs : (i j : Option Interpreter) (done : Done) → IsRunIfAny it i → IsSomeAnd (code_in i) (GoesOn it first)
+      → DidIfAny i (own_view it) done j → IsRunIfAny (with_act done.act it) j
+  acted_runs None j done runs goes did = absurd goes
+  acted_runs (Some i) None done runs goes did = absurd did
+  acted_runs (Some i) (Some j) done runs goes did = did_run i j done runs goes.1 did
+
+  can_act : (i : Interpreter) → IsRun it i → GoesOn it first i.script.value
+      → None ≡ missed_by first (next_miss (kept_by i.exec) (place i.exec) (own_view it)) → CanAct it first i.script.value
+  can_act i runs goes none = record {
+    goes_on = goes.0;
+    within = goes.1;
+    known = not_found first _ (missed_is it i runs first None none);
+  }
+
+  -- what is told of the act
+  pub steps_on : {D : Type 0} (old new : Client D) (i j : Option Interpreter) (done : Done) → IsRunIfAny it i
+      → IsSomeAnd (code_in i) (GoesOn it first) → DecidesIfAny first i (own_view it) (decides.Did done) j
+      → Notes (Acted it.number done.act) old new
+      → IsSomeAnd (code_in i) (λ (code : Code). StepIs old it first code (steps.Acted done.acts done.ended) new)
+  steps_on old new None j done runs goes decided notes = absurd goes
+  steps_on old new (Some i) None done runs goes decided notes = absurd decided
+  steps_on old new (Some i) (Some j) done runs goes decided notes =
+      let did : Did i (own_view it) done j = decided.1 in
+      let later : IsRun (with_act done.act it) j = did_run i j done runs goes.1 did in
+      record {
+        can = can_act i runs goes decided.0;
+        act = done.act;
+        next = next_done it i runs done.act (place j.exec) (after_update (own_view it) done.act.update) did.next;
+        notes = notes;
+        counted = did.counted ∙ later.run.counted ∙ length-append it.acts (done.act ∷ []);
+        ends = did.over ∙ sym (ended_is (with_act done.act it) j later) ∙ ap (has_ended (with_act done.act it)) did.same;
+      }
+
+  -- if its record is in doubt, it is that of the next act
+  pub next_in_doubt : (i j : Option Interpreter) (done : Done) (state : State) (records : ℕ) (images : List ℕ → Type 0) → IsRunIfAny it i
+      → IsSomeAnd (code_in i) (GoesOn it first) → DecidesIfAny first i (own_view it) (decides.Did done) j
+      → CutsOff (Acted it.number done.act) state records images
+      → IsSomeAnd (code_in i) (λ (code : Code). CutsOffNext it first code state records images)
+  next_in_doubt None j done state records images runs goes decided cuts = absurd goes
+  next_in_doubt (Some i) None done state records images runs goes decided cuts = absurd decided
+  next_in_doubt (Some i) (Some j) done state records images runs goes decided cuts = record {
+    can = can_act i runs goes decided.0;
+    act = done.act;
+    next = next_done it i runs done.act (place j.exec) (after_update (own_view it) done.act.update) decided.1.next;
+    cuts_off = cuts;
+  }
+
+  -- it misses something, and nothing has changed
+  pub fetches : {D : Type 0} (old new : Client D) (i j : Option Interpreter) (path : Path) (request : List ℕ) → IsRunIfAny it i
+      → IsSomeAnd (code_in i) (GoesOn it first) → DecidesIfAny first i (own_view it) (decides.Missed path) j
+      → IsRefresh (place_of old) (stamps_of old) (wants.Path path) request → ChangesClasses old new
+      → IsSomeAnd (code_in i) (λ (code : Code). StepIs old it first code (steps.Fetch request path) new)
+  fetches old new None j path request runs goes decided asks stays = absurd goes
+  fetches old new (Some i) None path request runs goes decided asks stays = absurd decided
+  fetches old new (Some i) (Some j) path request runs goes decided asks stays =
+      let both : (first ≡ true) × (missed (next_acts it i.script.value) ≡ Some path) =
+      found first path _ (missed_is it i runs first (Some path) decided.0) in (
+        asks,
+        record { goes_on = goes.0; within = goes.1; first_class = both.0; miss = both.1; stays = stays },
+      )
 
 -- a fault that is handed on is the same one
 pub same_fault : {T U : Type 0} (inner : Result U ClientFault) (outer : Result T ClientFault) (fault wanted : ClientFault)

@@ -1,7 +1,6 @@
 -- What is read of bytes that are the spelling of a reply, and how a call ends by what it reads.
 use Rattle.std.proofs.Common.{◌≡◌, ℕ, ◌<◌, ◌^◌, List, length, Option, None, ap, refl, sym, subst}
 use Rattle.std.specs.Prelude.{IfErr, IsErrAnd, Result, Ok, Err}
-use Rattle.iot_queue.specs.declared.items.Item.{Item}
 use Rattle.iot_stamp.specs.Stamps.{Stamps, nodes_of}
 use Rattle.iot_tree.specs.Tree.{Nodes, IsTree, root_alone}
 use Rattle.iot_tree.specs.declared.nodes.Node.TheVariants.{FarDir}
@@ -10,16 +9,9 @@ use Rattle.iot_stamp.proofs.StampsLaws.{nodes_with}
 use Rattle.iot_kept.proofs.BringingLaws.{brought_spelled}
 use Rattle.iot_kept.proofs.SpelledLaws.{far_root_rows}
 use Rattle.iot_tree.specs.declared.changes.Changes.{Changes}
-use Rattle.iot_wire.specs.Messages.{IsMessage}
-use Rattle.iot_wire.specs.Rules.{IsReply}
-use Rattle.iot_wire.specs.Spelling.{reply_spelling}
 use Rattle.iot_wire.proofs.MessagesLaws.{whole_again}
 use Rattle.iot_wire.proofs.SpellingLaws.{reply_laws}
 use Rattle.iot_wire.specs.declared.replies.Reply.TheVariants.{Objects}
-use Rattle.iot_kept.specs.Bringing.{brought_for}
-use Rattle.iot_kept.specs.Stamps.{StampsBy}
-use Rattle.iot_kept.specs.declared.bringing.Purpose.{Purpose}
-use Rattle.iot_kept.specs.declared.bringing.Purpose.TheVariants.{Hold, Fetch}
 use Rattle.iot_client.specs.Calls.{EndsBy, RefusesReply}
 use Rattle.iot_client.specs.Faults.{MayFail}
 use Rattle.iot_client.specs.Messages.{objects, objects_in, noted, Makes, no_changes, MakesOf, Reads, ReadsAs, ReadsObjects, ReadsNoted}

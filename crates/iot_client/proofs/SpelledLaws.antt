@@ -3,11 +3,11 @@ use Rattle.std.proofs.Common.{◌≡◌, ◌≤◌, ℕ, zero, suc, ◌+◌, Boo
 use Rattle.std.proofs.Common.{refl, sym, subst, ◌∙◌, arith, if◌then◌else◌}
 use Rattle.std.proofs.lemmas.Option.{same_Some, none-some}
 use Rattle.std.specs.Cmp.{first_so, second_so}
-use Rattle.std.specs.FinMap.{empty, entries, get-entries, get-from_entries, find, is_sorted}
+use Rattle.std.specs.FinMap.{empty, entries, get-from_entries, find, is_sorted}
 use Rattle.std.specs.FinMap.Entries.{below_all}
 use Rattle.std.specs.List.{AllByRecursion, filter_map, cons_option}
 use Rattle.std.specs.Ordering.{is_lt, eq_by_cmp}
-use Rattle.std.specs.Prelude.{IsSome, IfOk, Result, Ok, Err}
+use Rattle.std.specs.Prelude.{IfOk, Result, Ok, Err}
 use Rattle.iot_text.specs.Names.{IsName}
 use Rattle.iot_text.specs.Paths.{path_cmp, IsPath}
 use Rattle.iot_text.proofs.PathsLaws.{path_total}
@@ -16,12 +16,11 @@ use Rattle.iot_tree.specs.declared.acts.Act.{Act}
 use Rattle.iot_tree.specs.declared.labels.OnConflict.{OnConflict}
 use Rattle.iot_tree.specs.declared.labels.OnConflict.TheVariants as options
 use Rattle.iot_tree.specs.declared.limits.TheConstants.{ACT_LIMIT}
-use Rattle.iot_tree.specs.declared.nodes.Node.{Node}
 use Rattle.iot_tree.specs.declared.nodes.Node.TheVariants.{Dir, File, FarDir, FarFile}
-use Rattle.iot_tree.proofs.EachLaws.{each_entry, found_row}
+use Rattle.iot_tree.proofs.EachLaws.{each_entry}
 use Rattle.iot_acts.specs.Guards.{AllGuarded}
 use Rattle.iot_acts.specs.Traces.{ActsHold, after_update, after_acts}
-use Rattle.iot_views.specs.Rules.{IsContents, AreRising, IsNode, IsRow, IsOption, IsAct, IsTreeOfRows}
+use Rattle.iot_views.specs.Rules.{IsContents, AreRising, IsOption, IsAct, IsTreeOfRows}
 use Rattle.iot_lang.specs.Code.{Code}
 use Rattle.iot_lang.specs.Scripts.{IsScript}
 use Rattle.iot_exec.specs.Commands.{Kept, kept_files}
@@ -33,7 +32,7 @@ use Rattle.iot_exec.specs.Runs.{run}
 use Rattle.iot_exec.specs.declared.ran.Ran.{Ran}
 use Rattle.iot_exec.proofs.FindingLaws.{are_found}
 use Rattle.iot_exec.proofs.PlaceLaws.{exec_from_start}
-use Rattle.iot_limits.specs.Spelled.{IsSpelledNode, IsSpelledRow, IsSpelledTree, AreSpelledFiles}
+use Rattle.iot_limits.specs.Spelled.{IsSpelledRow, IsSpelledTree, AreSpelledFiles}
 use Rattle.iot_limits.proofs.TreesLaws.{tree_spelled}
 use Rattle.iot_limits.proofs.SpelledLaws.{run_is_spelled, no_files_are_spelled}
 use Rattle.iot_queue.specs.Queues.{head_of}
@@ -45,8 +44,8 @@ use Rattle.iot_resolve.specs.Resolved.{resolved}
 use Rattle.iot_resolve.specs.declared.plan.Plan.{Plan}
 use Rattle.iot_resolve.proofs.FilesLaws.{offers_files}
 use Rattle.iot_changes.specs.Rules.{IsResolution}
-use Rattle.iot_kept.specs.Spelled.{IsSpelledItem, AreSpelledItems, IsSpelledState}
-use Rattle.iot_kept.specs.States.{Transaction, State, after_each, after_items, view, EachGuarded, EachHold, AllHold}
+use Rattle.iot_kept.specs.Spelled.{IsSpelledItem, AreSpelledItems, IsSpelledRunning}
+use Rattle.iot_kept.specs.States.{Transaction, own_view, EachGuarded, EachHold}
 use Rattle.iot_kept.proofs.SpelledLaws.{rows_after_acts}
 use Rattle.iot_stamp.proofs.ActingLaws.{holds_fit}
 use Rattle.iot_stamp.specs.Acting.{UpdatesFit}
@@ -54,44 +53,28 @@ use Rattle.iot_client.specs.Doing.{Did, DidIfAny}
 use Rattle.iot_client.specs.Ties.{IsRun, IsRunIfAny}
 use Rattle.iot_client.specs.declared.interpreter.Done.{Done}
 use Rattle.iot_client.specs.declared.interpreter.Interpreter.{Interpreter}
-use Rattle.iot_client.proofs.TiesLaws.{RunsIn}
 
-pub items_rows : (items : List Item) (t : Nodes) → AreSpelledItems items → EachHold t items → IsTreeOfRows t
-    → IsTreeOfRows (after_each t items)
-items_rows [] t are hold rows = rows
-items_rows (item ∷ items) t are hold rows =
-    let is : IsSpelledItem item = are.0 in
-    items_rows items (after_acts t item.acts) are.1 hold.1 (rows_after_acts t item.acts is.acts.each hold.0 rows)
-
--- ---- an act of the transaction that runs
+-- ---- an act of a running transaction
 
 last_is : (acts : List Act) (act : Act) → AllByRecursion IsAct (acts ++ act ∷ []) → IsAct act
 last_is [] act all = all.0
 last_is (first ∷ acts) act all = last_is acts act all.1
 
-act_of_run : (running : Transaction) (state : State) (first : Bool) (i j : Interpreter) (done : Done) → IsSpelledState state → AllHold state
-    → IsRun state running first i → Did i (view state) done j → IsAct done.act
-act_of_run running state first i j done spelled hold run did =
-    let code : Code = i.script.value in
-    let base : Nodes = after_items state in
-    let more = did.goes_on code empty base (length running.acts) running.acts run.run in
-    let tree : IsSpelledTree base = tree_spelled base (items_rows state.items state.held spelled.items hold.items spelled.held) in
-    last_is running.acts done.act
-    (subst (λ (ran : Ran). AllByRecursion IsAct ran.acts) more.after.is_run
-    (run_is_spelled code empty base (length running.acts + 1) run.script no_files_are_spelled tree).acts)
-
-act_of : (running : Option Transaction) (state : State) (class : Option Bool) (i j : Option Interpreter) (done : Done)
-    → IsSpelledState state → AllHold state → IsSome running → IsRunIfAny state running class i → DidIfAny i (view state) done j
+act_of_run : (it : Transaction) (i j : Interpreter) (done : Done) → IsTreeOfRows it.base → IsRun it i → Did i (own_view it) done j
     → IsAct done.act
-act_of None state class i j done spelled hold some runs did = absurd cc
-act_of (Some running) state class None j done spelled hold some runs did = absurd did
-act_of (Some running) state class (Some i) None done spelled hold some runs did = absurd did
-act_of (Some running) state class (Some i) (Some j) done spelled hold some runs did =
-    act_of_run running state runs.0 i j done spelled hold runs.2 did
+act_of_run it i j done rows run did =
+    let code : Code = i.script.value in
+    let more = did.goes_on code empty it.base (length it.acts) it.acts run.run in
+    let tree : IsSpelledTree it.base = tree_spelled it.base rows in
+    last_is it.acts done.act
+    (subst (λ (ran : Ran). AllByRecursion IsAct ran.acts) more.after.is_run
+    (run_is_spelled code empty it.base (length it.acts + 1) run.script no_files_are_spelled tree).acts)
 
-pub act_spelled : (state : State) (class : Option Bool) (i j : Option Interpreter) (done : Done) → IsSpelledState state → AllHold state
-    → IsSome state.running → RunsIn state class i → DidIfAny i (view state) done j → IsAct done.act
-act_spelled state class i j done spelled hold some runs did = act_of state.running state class i j done spelled hold some runs did
+pub act_spelled : (it : Transaction) (i j : Option Interpreter) (done : Done) → IsSpelledRunning it → IsRunIfAny it i
+    → DidIfAny i (own_view it) done j → IsAct done.act
+act_spelled it None j done spelled runs did = absurd did
+act_spelled it (Some i) None done spelled runs did = absurd did
+act_spelled it (Some i) (Some j) done spelled runs did = act_of_run it i j done spelled.base runs did
 
 -- ---- the first that waits
 

@@ -1,13 +1,16 @@
 -- What a held tree has of a server's stamps through the calls of its client.
-use Rattle.std.proofs.Common.{◌≡◌, ℕ, List, Option, Some, None, ap, Ok}
+use Rattle.std.proofs.Common.{◌≡◌, ℕ, Bool, List, [], ◌∷◌, Option, ap, Ok}
 use Rattle.iot_stamp.specs.Agreement.{IsPositive}
 use Rattle.iot_stamp.specs.Stamps.{Stamps}
 use Rattle.iot_changes.specs.declared.changes.Change.{Change}
-use Rattle.iot_changes.specs.declared.changes.Change.TheVariants.{Acted}
+use Rattle.iot_changes.specs.declared.changes.Change.TheVariants as changed
+use Rattle.iot_lang.specs.Code.{Code}
 use Rattle.iot_kept.specs.States.{Transaction}
 use Rattle.iot_kept.proofs.SyncedLaws.{synced_holds}
-use Rattle.iot_client.specs.Calls.{Notes, CutsIfAny, StepIsIfAny, verdict_change}
-use Rattle.iot_client.specs.Ties.{Live, IsTied, state_of, stamps_of}
+use Rattle.iot_client.specs.Calls.{ChangesClasses, CutsIfAny, EndIs, Notes, StepIs, verdict_change}
+use Rattle.iot_client.specs.Ties.{IsTied, state_of, stamps_of}
+use Rattle.iot_client.specs.declared.ended.Ended.{Ended}
+use Rattle.iot_client.specs.declared.ended.Ended.TheVariants as ends
 use Rattle.iot_client.specs.declared.noted.Noted.{Noted}
 use Rattle.iot_client.specs.declared.steps.Step.{Step}
 use Rattle.iot_client.specs.Messages.{objects_in, ReadsObjects, nothing_held}
@@ -38,22 +41,34 @@ same_changes reply read changes only is spells = let both : objects_in reply ≡
 same_client : {D : Type 0} (was now : Client D) → now ≡ was → KeepsTrail (stamps_of was) (stamps_of now)
 same_client was now same = same_stamps (stamps_of was) (stamps_of now) (ap stamps_of same)
 
+-- nothing but classes is another
+pub classes_trail : {D : Type 0} (was now : Client D) → ChangesClasses was now → KeepsTrail (stamps_of was) (stamps_of now)
+classes_trail was now same = same_stamps (stamps_of was) (stamps_of now) same.stamps
+
 -- so it does not matter what the first that waits is told, ..
 pub verdict_own : (said : Noted) → IsOwn (verdict_change said)
 verdict_own (notes.Settled number) = tt
 verdict_own (notes.Conflict read) = tt
 
 -- .. nor what the next step is, ..
-pub step_trails : {D : Type 0} (medium : Medium D) (was now : Client D) (live : Option Live) (step : Step) → IsTied medium was
-    → StepIsIfAny was live step now → KeepsTrail (stamps_of was) (stamps_of now)
-step_trails medium was now None step tied is = absurd is
-step_trails medium was now (Some live) (steps.Acted acts ended) tied is = noted_trails medium was now (Acted is.act) tt tied is.notes
-step_trails medium was now (Some live) (steps.Fetch request path) tied is = same_client was now is.1.stays
-step_trails medium was now (Some live) (steps.AtEnd acts) tied is = same_client was now is.2
-step_trails medium was now (Some live) (steps.AtLimit acts) tied is = same_client was now is.3
+pub step_trails : {D : Type 0} (medium : Medium D) (was now : Client D) (it : Transaction) (first : Bool) (code : Code) (step : Step)
+    → IsTied medium was → StepIs was it first code step now → KeepsTrail (stamps_of was) (stamps_of now)
+step_trails medium was now it first code (steps.Acted acts ended) tied is =
+    noted_trails medium was now (changed.Acted it.number is.act) tt tied is.notes
+step_trails medium was now it first code (steps.Fetch request path) tied is = classes_trail was now is.1.stays
+step_trails medium was now it first code (steps.AtEnd acts) tied is = classes_trail was now is.2
+step_trails medium was now it first code (steps.AtLimit acts) tied is = classes_trail was now is.3
+
+-- .. nor what becomes of one that is to end, ..
+pub end_trails : {D : Type 0} (medium : Medium D) (was now : Client D) (it : Transaction) (first : Bool) (code : Code) (ended : Ended)
+    → IsTied medium was → EndIs was it first code ended now → KeepsTrail (stamps_of was) (stamps_of now)
+end_trails medium was now it first code (ends.Joined tid class) tied is =
+    noted_trails medium was now (changed.Ended it.number) tt tied is.2.notes
+end_trails medium was now it first code (ends.Again read question) tied is =
+    noted_trails medium was now (changed.Again it.number) tt tied is.notes
 
 -- .. nor whether something is cut off
-pub cut_trails : {D : Type 0} (was now : Client D) (running : Option Transaction) (told : Option ℕ) → CutsIfAny running told was now
+pub cut_trails : {D : Type 0} (was now : Client D) (running : List Transaction) (told : Option (ℕ × ℕ)) → CutsIfAny running told was now
     → KeepsTrail (stamps_of was) (stamps_of now)
-cut_trails was now None told is = same_client was now is.1
-cut_trails was now (Some running) told is = same_stamps (stamps_of was) (stamps_of now) is.1.stamps
+cut_trails was now [] told is = same_client was now is.1
+cut_trails was now (it ∷ running) told is = same_stamps (stamps_of was) (stamps_of now) is.notes.stamps

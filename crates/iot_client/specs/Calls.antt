@@ -1,8 +1,10 @@
 -- What the calls of a client refuse, change and answer.
-use Rattle.std.specs.Prelude.{◌≡◌, ℕ, ◌+◌, ◌<◌, ◌||◌, Bool, true, false, List, [], ◌∷◌, drop, leb, length, if◌then◌else◌}
-use Rattle.std.specs.Prelude.{⊤, IsSome, Option, Some, None, Result, Ok, Err}
+use Rattle.std.specs.Prelude.{◌≡◌, ℕ, ◌+◌, ◌-◌, ◌<◌, ◌||◌, Bool, true, false, List, [], ◌∷◌, drop, leb, nat_lt, length, slice_get}
+use Rattle.std.specs.Prelude.{⊤, IsSome, IsSomeAnd, Option, Some, None, Result, Ok, Err, option_map, unwrap_or, if◌then◌else◌}
 use Rattle.iot_access.specs.Access.{access_of}
 use Rattle.iot_acts.specs.Traces.{after_acts}
+use Rattle.iot_acts.specs.Turns.{reads_of, turns, DiffersAt}
+use Rattle.iot_certify.specs.Verdicts.{IsLongest}
 use Rattle.iot_disk.specs.Disk.{Medium}
 use Rattle.iot_slots.specs.Cells.{next}
 use Rattle.iot_tree.specs.Tree.{Path, Nodes, IsTree, IsWhole}
@@ -24,8 +26,9 @@ use Rattle.iot_queue.specs.declared.items.Stage.TheVariants as stages
 use Rattle.iot_resolve.specs.Plans.{plan_of}
 use Rattle.iot_resolve.specs.Resolved.{resolved}
 use Rattle.iot_resolve.specs.declared.plan.Plan.{Plan}
-use Rattle.iot_kept.specs.States.{Transaction, State, view}
-use Rattle.iot_kept.specs.Changes.{IsInConflict, CanFollow, after}
+use Rattle.iot_kept.specs.States.{Transaction, State, view, own_view, has_number, numbered}
+use Rattle.iot_bodies.specs.declared.running.TheConstants.{RUN_LIMIT}
+use Rattle.iot_kept.specs.Changes.{IsInConflict, CanFollow, with_act, after}
 use Rattle.iot_kept.specs.Bringing.{brought, bringing}
 use Rattle.iot_kept.specs.Stamps.{StampsBy}
 use Rattle.iot_kept.specs.declared.bringing.Purpose.{Purpose}
@@ -36,7 +39,7 @@ use Rattle.iot_changes.specs.declared.changes.Change.TheVariants as changes
 use Rattle.iot_client.specs.Faults.{MayFail}
 use Rattle.iot_wire.specs.Meanings.{IsRefresh}
 use Rattle.iot_client.specs.Messages.{IsToldBy, objects_in, nothing_held, noted_in}
-use Rattle.iot_client.specs.Ties.{state_of, stamps_of, place_of, disk_of, records_of, Live, count, run_of}
+use Rattle.iot_client.specs.Ties.{state_of, stamps_of, place_of, disk_of, records_of, Live, run_of}
 use Rattle.iot_client.specs.declared.client.Client.{Client}
 use Rattle.iot_client.specs.declared.fault.ClientFault.{ClientFault}
 use Rattle.iot_client.specs.declared.fault.ClientFault.TheVariants.{NoMemory, Stopped, Busy, Pending, Idle, NotAtEnd, Nothing}
@@ -44,26 +47,28 @@ use Rattle.iot_client.specs.declared.fault.ClientFault.TheVariants.{NotManual, B
 use Rattle.iot_client.specs.declared.noted.Noted.{Noted}
 use Rattle.iot_client.specs.declared.noted.Noted.TheVariants as notes
 use Rattle.iot_client.specs.declared.ended.Ended.{Ended}
+use Rattle.iot_client.specs.declared.ended.Ended.TheVariants.{Joined, Again}
+use Rattle.iot_tree.specs.declared.acts.Read.{Read}
+use Rattle.iot_tree.specs.declared.questions.Answer.{Answer}
+use Rattle.iot_tree.specs.declared.questions.Question.{Question}
 use Rattle.iot_client.specs.declared.steps.Step.{Step}
 use Rattle.iot_client.specs.declared.steps.Step.TheVariants.{Acted, Fetch, AtEnd, AtLimit}
 
 -- ---- refusals, by the state alone
 
--- a call that wants that nothing runs
-abbrev pub busy : Option Transaction → Option ClientFault
-busy None = None
-busy (Some running) = Some Busy
+-- a call that wants that fewer run than may
+abbrev pub busy : List Transaction → Option ClientFault
+busy running = if nat_lt (length running) RUN_LIMIT then None else Some Busy
 
--- a call that wants that nothing runs and nothing waits
-abbrev pub unready : Option Transaction → List Item → Option ClientFault
-unready (Some running) items = Some Busy
-unready None [] = None
-unready None (item ∷ items) = Some Pending
+-- a call that wants that nothing waits
+abbrev pub pending : List Item → Option ClientFault
+pending [] = None
+pending (item ∷ items) = Some Pending
 
--- a call that wants that a transaction runs
+-- a call that wants that this transaction runs
 abbrev pub idle : Option Transaction → Option ClientFault
 idle None = Some Idle
-idle (Some running) = None
+idle (Some it) = None
 
 -- a call that wants that a transaction waits
 abbrev pub empty_queue : List Item → Option ClientFault
@@ -81,24 +86,35 @@ abbrev pub not_manual : List Item → Option ClientFault
 not_manual [] = Some Nothing
 not_manual (item ∷ items) = not_manual_in item.stage
 
--- whether the script of the running transaction has ended
-abbrev pub has_ended : State → Code → Bool
-has_ended state code = (run_of state code (count state)).ended
+-- what is known of the running transaction with this number, if it runs
+abbrev pub live_numbered : ℕ → List Transaction → List Live → Option Live
+live_numbered number (it ∷ running) (live ∷ lives) =
+    if has_number number it then Some live else live_numbered number running lives
+live_numbered number _ _ = None
 
--- whether a transaction runs whose script has ended
-abbrev pub is_over_if_any : State → Option Live → Bool
-is_over_if_any state None = false
-is_over_if_any state (Some live) = has_ended state live.code
+-- whether its script has ended
+abbrev pub has_ended : Transaction → Code → Bool
+has_ended it code = (run_of it code (length it.acts)).ended
 
 -- whether it may be ended: its script has ended, or it may do no more acts
-abbrev pub may_end : State → Option Live → Bool
-may_end state None = false
-may_end state (Some live) = has_ended state live.code || leb ACT_LIMIT (count state)
+abbrev pub may_end : Transaction → Code → Bool
+may_end it code = has_ended it code || leb ACT_LIMIT (length it.acts)
 
--- a call that wants that a transaction runs, and that it may be ended
+-- so it is of one that runs, if its script is known
+abbrev pub by_code : (Transaction → Code → Bool) → Option Transaction → Option Live → Bool
+by_code by (Some it) (Some live) = unwrap_or (option_map (by it) live.code) false
+by_code by _ _ = false
+
+abbrev pub is_over_if_any : Option Transaction → Option Live → Bool
+is_over_if_any it live = by_code has_ended it live
+
+abbrev pub may_end_if_any : Option Transaction → Option Live → Bool
+may_end_if_any it live = by_code may_end it live
+
+-- a call that wants that this transaction runs, and that it may be ended
 abbrev pub unended : Option Transaction → Bool → Option ClientFault
 unended None over = Some Idle
-unended (Some running) over = if over then None else Some NotAtEnd
+unended (Some it) over = if over then None else Some NotAtEnd
 
 -- a call that writes nothing is refused for this cause, exactly if there is one; else it is done, or memory ran out
 abbrev pub RefusesFor : {T : Type 0} → Option ClientFault → Result T ClientFault → Type 0
@@ -186,10 +202,11 @@ HeadIsIfAny Is (item ∷ items) = Is item
 abbrev pub ChangesHead : Change → Type 0
 ChangesHead (changes.Held tree) = ⊥
 ChangesHead (changes.Begun number script option) = ⊥
-ChangesHead (changes.Fetched tree) = ⊥
-ChangesHead (changes.Acted act) = ⊥
-ChangesHead changes.Ended = ⊥
-ChangesHead changes.Cut = ⊥
+ChangesHead (changes.Fetched number tree) = ⊥
+ChangesHead (changes.Acted number act) = ⊥
+ChangesHead (changes.Ended number) = ⊥
+ChangesHead (changes.Cut number acts) = ⊥
+ChangesHead (changes.Again number) = ⊥
 ChangesHead changes.Conflicted = Unit {0}
 ChangesHead (changes.Resolved done access) = Unit {0}
 ChangesHead (changes.Repaired script) = Unit {0}
@@ -252,21 +269,49 @@ pub record CutsOffByRun (reply : List ℕ) (code : Code) (state : State) (record
   pub whole : IsWhole (nodes_of (brought nothing_held changes))
   pub reruns : CutsOffRerun code (nodes_of (brought nothing_held changes)) state records images
 
--- if a transaction runs that was begun since the start, it is first class
+-- if this one runs, it is first class
 abbrev pub IsFirstIfAny : Option Live → Type 0
 IsFirstIfAny None = Unit {0}
 IsFirstIfAny (Some live) = live.first ≡ true
 
--- a second-class transaction, if one runs
-abbrev pub second_class : Option Live → Option Live
-second_class None = None
-second_class (Some live) = Some (record live { first = false })
+-- ---- classes
+
+abbrev pub second_class : Live → Live
+second_class live = record live { first = false }
+
+-- what is known of those that run, if the one with this number is another now
+abbrev pub with_live : ℕ → (Live → Live) → List Transaction → List Live → List Live
+with_live number change (it ∷ running) (live ∷ lives) =
+    if has_number number it then change live ∷ lives else live ∷ with_live number change running lives
+with_live number change _ lives = lives
+
+-- without that one
+abbrev pub other_lives : ℕ → List Transaction → List Live → List Live
+other_lives number (it ∷ running) (live ∷ lives) =
+    if has_number number it then lives else live ∷ other_lives number running lives
+other_lives number _ lives = lives
+
+-- if transactions wait, this one is second class
+abbrev pub yielded_to : List Item → (number : ℕ) → List Transaction → List Live → List Live
+yielded_to [] number running lives = lives
+yielded_to (item ∷ items) number running lives = with_live number second_class running lives
+
+abbrev pub yielded : (number : ℕ) → State → List Live → List Live
+yielded number state lives = yielded_to state.items number state.running lives
+
+-- nothing but classes is another
+pub record ChangesClasses {D : Type 0} (old new : Client D) : Type 0 where
+  pub state : state_of new ≡ state_of old
+  pub stamps : stamps_of new ≡ stamps_of old
+  pub place : place_of new ≡ place_of old
+  pub disk : disk_of new ≡ disk_of old
+  pub records : records_of new ≡ records_of old
 
 -- ---- single steps
 
 -- the act that the script does next, if it does one more
-abbrev pub next_acts : State → Code → List Act
-next_acts state code = drop (count state) (run_of state code (count state + 1)).acts
+abbrev pub next_acts : Transaction → Code → List Act
+next_acts it code = drop (length it.acts) (run_of it code (length it.acts + 1)).acts
 
 -- a first-class transaction misses this path, if any
 abbrev pub missed_by : Bool → Option Path → Option Path
@@ -279,75 +324,117 @@ missed [] = None
 missed (act ∷ acts) = first_away act.reads
 
 -- the script has not ended and may do one more act; if it is first class, that act asks nothing that is away
-pub record CanAct (state : State) (live : Live) : Type 0 where
-  pub goes_on : has_ended state live.code ≡ false
-  pub within : count state < ACT_LIMIT
-  pub known : live.first ≡ true → missed (next_acts state live.code) ≡ None
-
--- of the transaction that runs
-abbrev pub CanActIfAny : State → Option Live → Type 0
-CanActIfAny state None = ⊥
-CanActIfAny state (Some live) = CanAct state live
+pub record CanAct (it : Transaction) (first : Bool) (code : Code) : Type 0 where
+  pub goes_on : has_ended it code ≡ false
+  pub within : length it.acts < ACT_LIMIT
+  pub known : first ≡ true → missed (next_acts it code) ≡ None
 
 -- the next act was done
-pub record DoesNext {D : Type 0} (old : Client D) (live : Live) (acts : ℕ) (ended : Bool) (new : Client D) : Type 0 where
-  pub can : CanAct (state_of old) live
+pub record DoesNext {D : Type 0} (old : Client D) (it : Transaction) (first : Bool) (code : Code) (acts : ℕ) (ended : Bool)
+    (new : Client D) : Type 0 where
+  pub can : CanAct it first code
   pub act : Act
-  pub next : next_acts (state_of old) live.code ≡ act ∷ []
-  pub notes : Notes (changes.Acted act) old new
-  pub counted : acts ≡ count (state_of old) + 1
-  pub ends : ended ≡ has_ended (state_of new) live.code
+  pub next : next_acts it code ≡ act ∷ []
+  pub notes : Notes (changes.Acted it.number act) old new
+  pub counted : acts ≡ length it.acts + 1
+  pub ends : ended ≡ has_ended (with_act act it) code
 
 -- it was stopped while it appended the record of that act
-pub record CutsOffNext (live : Live) (state : State) (records : ℕ) (images : List ℕ → Type 0) : Type 0 where
-  pub can : CanAct state live
+pub record CutsOffNext (it : Transaction) (first : Bool) (code : Code) (state : State) (records : ℕ) (images : List ℕ → Type 0) : Type
+    0 where
+  pub can : CanAct it first code
   pub act : Act
-  pub next : next_acts state live.code ≡ act ∷ []
-  pub cuts_off : CutsOff (changes.Acted act) state records images
-
-abbrev pub CutsOffNextIfAny : Option Live → State → ℕ → (List ℕ → Type 0) → Type 0
-CutsOffNextIfAny None state records images = ⊥
-CutsOffNextIfAny (Some live) state records images = CutsOffNext live state records images
+  pub next : next_acts it code ≡ act ∷ []
+  pub cuts_off : CutsOff (changes.Acted it.number act) state records images
 
 -- the next act of a first-class transaction asks first about this path of those that are away
-pub record Misses {D : Type 0} (old : Client D) (live : Live) (path : Path) (new : Client D) : Type 0 where
-  pub goes_on : has_ended (state_of old) live.code ≡ false
-  pub within : count (state_of old) < ACT_LIMIT
-  pub first : live.first ≡ true
-  pub miss : missed (next_acts (state_of old) live.code) ≡ Some path
-  pub stays : new ≡ old
+pub record Misses {D : Type 0} (old : Client D) (it : Transaction) (first : Bool) (code : Code) (path : Path) (new : Client D) : Type
+    0 where
+  pub goes_on : has_ended it code ≡ false
+  pub within : length it.acts < ACT_LIMIT
+  pub first_class : first ≡ true
+  pub miss : missed (next_acts it code) ≡ Some path
+  pub stays : ChangesClasses old new
 
--- what a single step answers
-abbrev pub StepIs : {D : Type 0} → Client D → Live → Step → Client D → Type 0
-StepIs old live (Acted acts ended) new = DoesNext old live acts ended new
-StepIs old live (Fetch request path) new =
-    IsRefresh (place_of old) (stamps_of old) (wants.Path path) request × Misses old live path new
-StepIs old live (AtEnd acts) new = (has_ended (state_of old) live.code ≡ true) × (acts ≡ count (state_of old)) × (new ≡ old)
-StepIs old live (AtLimit acts) new =
-    (has_ended (state_of old) live.code ≡ false) × (acts ≡ ACT_LIMIT) × (count (state_of old) ≡ ACT_LIMIT) × (new ≡ old)
+-- what a single step of this transaction answers
+abbrev pub StepIs : {D : Type 0} → Client D → Transaction → (first : Bool) → Code → Step → Client D → Type 0
+StepIs old it first code (Acted acts ended) new = DoesNext old it first code acts ended new
+StepIs old it first code (Fetch request path) new =
+    IsRefresh (place_of old) (stamps_of old) (wants.Path path) request × Misses old it first code path new
+StepIs old it first code (AtEnd acts) new = (has_ended it code ≡ true) × (acts ≡ length it.acts) × ChangesClasses old new
+StepIs old it first code (AtLimit acts) new =
+    (has_ended it code ≡ false) × (acts ≡ ACT_LIMIT) × (length it.acts ≡ ACT_LIMIT) × ChangesClasses old new
 
-abbrev pub StepIsIfAny : {D : Type 0} → Client D → Option Live → Step → Client D → Type 0
-StepIsIfAny old None step new = ⊥
-StepIsIfAny old (Some live) step new = StepIs old live step new
+-- one runs, its script is known, and this is so of both and of its class
+abbrev pub IsSoOf : (Transaction → (first : Bool) → Code → Type 0) → Option Transaction → Option Live → Type 0
+IsSoOf Is (Some it) (Some live) = IsSomeAnd live.code (Is it live.first)
+IsSoOf Is _ _ = ⊥
+
+-- so of the running transaction with this number, once it is second class if transactions wait
+abbrev pub IsSoOfRun : (Transaction → (first : Bool) → Code → Type 0) → (number : ℕ) → State → List Live → Type 0
+IsSoOfRun Is number state lives =
+    IsSoOf Is (numbered number state.running) (live_numbered number state.running (yielded number state lives))
 
 -- ---- the end
 
--- what is told of the transaction that ends: its number and its class. Its acts are those of the run of its script with the whole
--- budget, and that run's tree is the view
-pub record Ends (state : State) (running : Transaction) (live : Live) (gone : Ended) : Type 0 where
-  pub number : gone.tid ≡ running.number
-  pub class : gone.first ≡ live.first
-  pub whole_acts : (run_of state live.code ACT_LIMIT).acts ≡ running.acts
-  pub whole_tree : (run_of state live.code ACT_LIMIT).tree ≡ view state
+-- the transaction ended, and waits: the acts of its script's run with the whole budget are what it did, and they hold on the view
+pub record Joins {D : Type 0} (old : Client D) (it : Transaction) (first : Bool) (code : Code) (new : Client D) : Type 0 where
+  pub notes : Notes (changes.Ended it.number) old new
+  pub whole_acts : (run_of it code ACT_LIMIT).acts ≡ it.acts
+  pub whole_tree : (run_of it code ACT_LIMIT).tree ≡ own_view it
+  pub may : may_end it code ≡ true
 
-abbrev pub EndsIfAny : State → Option Transaction → Option Live → Ended → Type 0
-EndsIfAny state (Some running) (Some live) gone = Ends state running live gone
-EndsIfAny state (Some running) None gone = ⊥
-EndsIfAny state None live gone = ⊥
+-- the first read of it that has another answer on this tree has this place, counted from 1, and asks this
+pub record Differs (t : Nodes) (it : Transaction) (read : ℕ) (question : Question) : Type 0 where
+  pub asked : Read
+  pub answer : Answer
+  pub at : slice_get (reads_of it.acts) (read - 1) ≡ Some asked
+  pub is : question ≡ asked.question
+  pub differs : DiffersAt (turns t it.acts) 1 read answer
+
+-- so it is on the view, and the transaction starts again there
+pub record StartsAgain {D : Type 0} (old : Client D) (it : Transaction) (code : Code) (read : ℕ) (question : Question) (new : Client D)
+    : Type 0 where
+  pub notes : Notes (changes.Again it.number) old new
+  pub differs : Differs (view (state_of old)) it read question
+  pub may : may_end it code ≡ true
+
+-- it was stopped while it appended the record of one or the other
+pub data CutsOffEnd (it : Transaction) (code : Code) (state : State) (records : ℕ) (images : List ℕ → Type 0) : Type 0 where
+  joining : may_end it code ≡ true → CutsOff (changes.Ended it.number) state records images → CutsOffEnd it code state records images
+  starting : (read : ℕ) (question : Question) → may_end it code ≡ true → Differs (view state) it read question
+      → CutsOff (changes.Again it.number) state records images → CutsOffEnd it code state records images
+
+-- what is told of a transaction that was to end
+abbrev pub EndIs : {D : Type 0} → Client D → Transaction → (first : Bool) → Code → Ended → Client D → Type 0
+EndIs old it first code (Joined tid class) new = (tid ≡ it.number) × (class ≡ first) × Joins old it first code new
+EndIs old it first code (Again read question) new = StartsAgain old it code read question new
+
+-- what is known of those that run after that
+abbrev pub lives_after : Ended → (number : ℕ) → List Transaction → List Live → List Live
+lives_after (Joined tid class) number running lives = other_lives number running lives
+lives_after (Again read question) number running lives = lives
 
 -- ---- a cut
 
--- what is told is the number of acts of the transaction that ran, which waits from then on with these acts; if none ran, nothing changes
-abbrev pub CutsIfAny : {D : Type 0} → Option Transaction → Option ℕ → Client D → Client D → Type 0
-CutsIfAny None told old new = (told ≡ None) × (new ≡ old)
-CutsIfAny (Some running) told old new = (told ≡ Some (length running.acts)) × Notes changes.Cut old new
+-- the first of those that ran, by its number, waits from then on with as many of its first acts as hold on the view; if none ran, nothing
+-- changes
+pub record Cuts {D : Type 0} (it : Transaction) (told : Option (ℕ × ℕ)) (old new : Client D) : Type 0 where
+  pub acts : ℕ
+  pub is : told ≡ Some (it.number, acts)
+  pub longest : IsLongest (view (state_of old)) it.acts acts
+  pub notes : Notes (changes.Cut it.number acts) old new
+
+abbrev pub CutsIfAny : {D : Type 0} → List Transaction → Option (ℕ × ℕ) → Client D → Client D → Type 0
+CutsIfAny [] told old new = (told ≡ None) × (new ≡ old)
+CutsIfAny (it ∷ running) told old new = Cuts it told old new
+
+-- it was stopped while it appended the record of that
+pub record CutsOffFirst (it : Transaction) (state : State) (records : ℕ) (images : List ℕ → Type 0) : Type 0 where
+  pub acts : ℕ
+  pub longest : IsLongest (view state) it.acts acts
+  pub cuts_off : CutsOff (changes.Cut it.number acts) state records images
+
+abbrev pub CutsOffCut : List Transaction → State → ℕ → (List ℕ → Type 0) → Type 0
+CutsOffCut [] state records images = ⊥
+CutsOffCut (it ∷ running) state records images = CutsOffFirst it state records images

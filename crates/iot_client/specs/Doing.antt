@@ -1,5 +1,5 @@
 -- What an interpreter does when it does one act.
-use Rattle.std.specs.Prelude.{◌≡◌, ◌<◌, Bool, false, [], ◌∷◌, Option, Some, None}
+use Rattle.std.specs.Prelude.{◌≡◌, ◌<◌, ℕ, zero, suc, Bool, true, false, List, [], ◌∷◌, length, Option, Some, None}
 use Rattle.std.specs.FinMap.{empty}
 use Rattle.iot_tree.specs.Tree.{Nodes}
 use Rattle.iot_tree.specs.declared.limits.TheConstants.{ACT_LIMIT}
@@ -8,11 +8,31 @@ use Rattle.iot_acts.specs.Traces.{ActsHold, after_update}
 use Rattle.iot_lang.specs.Code.{Code}
 use Rattle.iot_exec.specs.Places.{is_over}
 use Rattle.iot_exec.specs.Execs.{IsNextAt, IsRunning, RunsOn, place, kept_by, act_count, next_miss}
-use Rattle.iot_client.specs.Calls.{missed_by}
+use Rattle.iot_kept.specs.States.{Transaction, has_number, numbered}
+use Rattle.iot_client.specs.Calls.{live_numbered, has_ended, IsSoOf, missed_by}
+use Rattle.iot_client.specs.Ties.{Live}
 use Rattle.iot_client.specs.declared.interpreter.Decided.{Decided}
 use Rattle.iot_client.specs.declared.interpreter.Decided.TheVariants as decides
 use Rattle.iot_client.specs.declared.interpreter.Interpreter.{Interpreter}
 use Rattle.iot_client.specs.declared.interpreter.Done.{Done}
+
+-- ---- the one with a number
+
+-- among those that run it is at this place
+abbrev pub IsAt : ℕ → List Transaction → (at : ℕ) → Type 0
+IsAt number [] at = ⊥
+IsAt number (it ∷ running) zero = has_number number it ≡ true
+IsAt number (it ∷ running) (suc at) = (has_number number it ≡ false) × IsAt number running at
+
+-- it runs, its script is known, and this is so of both and of its class
+abbrev pub IsSoOfOne : (Transaction → (first : Bool) → Code → Type 0) → (number : ℕ) → List Transaction → List Live → Type 0
+IsSoOfOne Is number running lives = IsSoOf Is (numbered number running) (live_numbered number running lives)
+
+-- its script has not ended, and it may do one more act
+abbrev pub GoesOn : Transaction → (first : Bool) → Code → Type 0
+GoesOn it first code = (has_ended it code ≡ false) × (length it.acts < ACT_LIMIT)
+
+-- ---- its interpreter
 
 -- it is at the first act of this script, on any tree
 abbrev pub Starts : Code → Interpreter → Type 0

@@ -1,6 +1,7 @@
 -- What contracts see of a client, and what ties its state to the run of its script.
-use Rattle.std.specs.Prelude.{◌≡◌, ℕ, ◌≤◌, Bool, true, false, [], length, Option, Some, None}
+use Rattle.std.specs.Prelude.{◌≡◌, ℕ, ◌≤◌, Bool, false, List, [], ◌∷◌, length, Option, Some, None, IsSome}
 use Rattle.std.specs.FinMap.{empty}
+use Rattle.std.specs.List.{AllByRecursion}
 use Rattle.iot_disk.specs.Disk.{Medium}
 use Rattle.iot_tree.specs.declared.limits.TheConstants.{ACT_LIMIT}
 use Rattle.iot_lang.specs.Code.{Code}
@@ -10,7 +11,7 @@ use Rattle.iot_exec.specs.Execs.{IsRunning}
 use Rattle.iot_exec.specs.declared.ran.Ran.{Ran}
 use Rattle.iot_stamp.specs.Stamps.{Stamps}
 use Rattle.iot_kept.specs.Kept as kept
-use Rattle.iot_kept.specs.States.{Transaction, State, acts_of, after_items, view}
+use Rattle.iot_kept.specs.States.{Transaction, State, own_view}
 use Rattle.iot_client.specs.declared.client.Client.{Client}
 use Rattle.iot_client.specs.declared.interpreter.Interpreter.{Interpreter}
 
@@ -36,75 +37,84 @@ disk_of client = kept.disk_of client.kept
 abbrev pub records_of : {D : Type 0} → Client D → ℕ
 records_of client = kept.records_of client.kept
 
--- whether the running transaction is first class, if one runs
-abbrev pub class_in : {D : Type 0} → Client D → Option Bool
-class_in client = kept.class_in client.kept
+-- whether those that run are first class, in their order
+abbrev pub classes_in : {D : Type 0} → Client D → List Bool
+classes_in client = kept.classes_in client.kept
 
--- what is known of a running transaction that was begun since the start: whether it is first class, and its script
+-- what is known of a running transaction besides what is durable: whether it is first class; and its script, if it was begun since the
+-- start
 pub record Live : Type 0 where
   pub first : Bool
-  pub code : Code
+  pub code : Option Code
 
-abbrev pub live : Option Bool → Option Interpreter → Option Live
-live None interpreter = None
-live (Some first) None = None
-live (Some first) (Some interpreter) = Some (record { first = first; code = interpreter.script.value })
+abbrev pub code_in : Option Interpreter → Option Code
+code_in None = None
+code_in (Some interpreter) = Some interpreter.script.value
 
--- None if nothing runs, or if the start found what runs
-abbrev pub live_of : {D : Type 0} → Client D → Option Live
-live_of client = live (class_in client) client.interpreter
+-- of each in turn
+abbrev pub lives : List Bool → List (Option Interpreter) → List Live
+lives (first ∷ classes) (interpreter ∷ interpreters) = record { first = first; code = code_in interpreter } ∷ lives classes interpreters
+lives _ _ = []
 
--- the transaction that runs, if one does, was begun since the start: one that the start found is only to be cut
-abbrev pub IsBegunIfAny : Option Transaction → Option Live → Type 0
-IsBegunIfAny running (Some live) = Unit {0}
-IsBegunIfAny None None = Unit {0}
-IsBegunIfAny (Some running) None = ⊥
+abbrev pub live_of : {D : Type 0} → Client D → List Live
+live_of client = lives (classes_in client) client.interpreters.items
 
--- the class of the transaction that runs, if one does: one that the start found is second class
-abbrev pub class_by : Option Transaction → Option Live → Option Bool
-class_by None live = None
-class_by (Some running) None = Some false
-class_by (Some running) (Some live) = Some live.first
+-- it was begun since the start: one that the start found is only to be cut
+abbrev pub IsBegun : Live → Type 0
+IsBegun live = IsSome live.code
+
+abbrev pub AreBegun : List Live → Type 0
+AreBegun lives = AllByRecursion IsBegun lives
+
+-- the start found it: it is second class, and has no script
+pub record IsFound (live : Live) : Type 0 where
+  pub second : live.first ≡ false
+  pub none : live.code ≡ None
+
+abbrev pub AreFound : List Live → Type 0
+AreFound lives = AllByRecursion IsFound lives
 
 -- ---- runs
 
--- how many acts the running transaction has done
-abbrev pub count : State → ℕ
-count state = length (acts_of state.running)
+-- the run of a transaction's script with nothing kept, on its base, with a budget of n acts
+abbrev pub run_of : Transaction → Code → ℕ → Ran
+run_of it code n = run code empty it.base n
 
--- the run of its script with nothing kept, on the tree after the items, with a budget of n acts
-abbrev pub run_of : State → Code → ℕ → Ran
-run_of state code n = run code empty (after_items state) n
+-- the run with as many acts as were done has the recorded acts, and its tree is the transaction's own view
+pub record IsOwnRun (it : Transaction) (code : Code) : Type 0 where
+  pub acts : (run_of it code (length it.acts)).acts ≡ it.acts
+  pub tree : (run_of it code (length it.acts)).tree ≡ own_view it
 
--- the run with as many acts as were done has the recorded acts, and the view is its tree
-pub record IsOwnRun (state : State) (code : Code) : Type 0 where
-  pub acts : (run_of state code (count state)).acts ≡ acts_of state.running
-  pub tree : (run_of state code (count state)).tree ≡ view state
+abbrev pub IsOwnRunIfAny : Transaction → Option Code → Type 0
+IsOwnRunIfAny it None = Unit {0}
+IsOwnRunIfAny it (Some code) = IsOwnRun it code
 
--- of the transaction that runs, if one does
-abbrev pub IsOwnRunIfAny : State → Option Live → Type 0
-IsOwnRunIfAny state None = state.running ≡ None
-IsOwnRunIfAny state (Some live) = IsOwnRun state live.code
+-- of all that run, each with what is known of it
+abbrev pub AreOwnRuns : List Transaction → List Live → Type 0
+AreOwnRuns [] [] = Unit {0}
+AreOwnRuns (it ∷ running) (live ∷ lives) = IsOwnRunIfAny it live.code × AreOwnRuns running lives
+AreOwnRuns _ _ = ⊥
 
 -- ---- the tie
 
--- the interpreter has done the transaction's acts from the tree after the items on, which is the view now; a first-class
--- transaction runs while no item waits
-pub record IsRun (state : State) (running : Transaction) (first : Bool) (interpreter : Interpreter) : Type 0 where
-  pub run : IsRunning interpreter.script.value empty (after_items state) (length running.acts) running.acts interpreter.exec (view state)
-  pub few : length running.acts ≤ ACT_LIMIT
-  pub alone : first ≡ true → state.items ≡ []
+-- the interpreter has done the transaction's acts from its base on, whose tree is its own view now
+pub record IsRun (it : Transaction) (interpreter : Interpreter) : Type 0 where
+  pub run : IsRunning interpreter.script.value empty it.base (length it.acts) it.acts interpreter.exec (own_view it)
+  pub few : length it.acts ≤ ACT_LIMIT
   pub script : IsScript interpreter.script.value
 
--- If none runs, there is neither a class nor an interpreter. One that runs without an interpreter was found by the start, and is
--- second class.
-abbrev pub IsRunIfAny : State → Option Transaction → Option Bool → Option Interpreter → Type 0
-IsRunIfAny state None class interpreter = (class ≡ None) × (interpreter ≡ None)
-IsRunIfAny state (Some running) class None = class ≡ Some false
-IsRunIfAny state (Some running) class (Some interpreter) =
-    (first : Bool) × (class ≡ Some first) × IsRun state running first interpreter
+-- one that the start found has none
+abbrev pub IsRunIfAny : Transaction → Option Interpreter → Type 0
+IsRunIfAny it None = Unit {0}
+IsRunIfAny it (Some interpreter) = IsRun it interpreter
 
--- what each call keeps: nothing is under way on the disk, which stands for the state, and the interpreter runs what runs
+-- so it is of each in turn
+abbrev pub AreRuns : List Transaction → List (Option Interpreter) → Type 0
+AreRuns [] [] = Unit {0}
+AreRuns (it ∷ running) (interpreter ∷ interpreters) = IsRunIfAny it interpreter × AreRuns running interpreters
+AreRuns _ _ = ⊥
+
+-- what each call keeps: nothing is under way on the disk, which stands for the state; and the interpreters run what runs
 pub record IsTied {D : Type 0} (medium : Medium D) (client : Client D) : Type 0 where
   pub synced : kept.IsSynced medium client.kept
-  pub runs : IsRunIfAny (state_of client) (state_of client).running (class_in client) client.interpreter
+  pub runs : AreRuns (state_of client).running client.interpreters.items

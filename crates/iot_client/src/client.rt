@@ -1,19 +1,20 @@
 //! The client itself.
-ghost use Rattle.std.specs.Prelude.{◌≡◌, ◌≢◌, ℕ, None, IfOk, IfErr, MatchResult};
-ghost use Rattle.std.specs.Option.{option_copied};
+ghost use Rattle.std.specs.Prelude.{◌≡◌, ◌≢◌, ℕ, map, IfOk, IfErr, MatchResult};
+ghost use Rattle.std.specs.List.{AllByRecursion};
 ghost use Rattle.iot_disk.specs.Disk.{armed_with, Only, SameImages};
 ghost use Rattle.iot_durable.specs.Causes.{HasCause, SaysDamaged, SaysForeign, TakesBytes};
 ghost use Rattle.iot_durable.specs.Damage.{IsDamagedAt};
-ghost use Rattle.iot_durable.specs.Standing.{EachOpens, IsFresh, StandWith, header, records_in};
+ghost use Rattle.iot_durable.specs.Standing.{EachOpens, IsFresh, StandWith};
 ghost use Rattle.iot_records.specs.Records.{ChangesNothing};
 ghost use Rattle.iot_slots.specs.Decoding.{Foreign, NotStarted, decoded};
 ghost use Rattle.iot_stamp.specs.Stamps.{unstamped};
-ghost use Rattle.iot_kept.specs.Memory.{transaction_of, class_of};
-ghost use Rattle.iot_kept.specs.Rules.{rules};
+ghost use Rattle.iot_kept.specs.Kept.{IsSynced, classes_in, disk_of as disk_in};
+ghost use Rattle.iot_kept.specs.Memory.{transactions, classes_of, AreSecond, SeesOwn};
+ghost use Rattle.iot_kept.specs.Rules.{header, rules};
 ghost use Rattle.iot_kept.specs.Spelled.{IsSpelledState};
-ghost use Rattle.iot_kept.specs.Standing.{StandFor, EachStands};
-ghost use Rattle.iot_kept.specs.States.{State, view, AllHold, AreGuarded};
-ghost use Rattle.iot_client.specs.Calls.{is_over_if_any};
+ghost use Rattle.iot_kept.specs.Standing.{StandFor, EachStands, records_in};
+ghost use Rattle.iot_kept.specs.States.{State, numbered, view, AllHold, AreGuarded};
+ghost use Rattle.iot_client.specs.Calls.{is_over_if_any, live_numbered};
 
 use crate::interpreter::Interpreter;
 use iot_disk::{Disk, Pick, StartFault};
@@ -31,17 +32,17 @@ pub struct Client<D: Disk> {
     pub(crate) me: u64,
     pub(crate) kept: Kept<D>,
 
-    /// Is there as long as a transaction runs that was begun since the start.
-    pub(crate) interpreter: Option<Interpreter>,
+    /// One for each transaction that runs, in their order; none for one that the start found.
+    pub(crate) interpreters: Vec<Option<Interpreter>>,
 }
 
 impl<D: Disk> Client<D> {
-    ghost use Rattle.iot_client.specs.Ties.{state_of, stamps_of, place_of, disk_of, records_of, live_of, class_by};
-    ghost use Rattle.iot_client.specs.Ties.{IsTied, IsBegunIfAny, IsOwnRunIfAny};
+    ghost use Rattle.iot_client.specs.Ties.{state_of, stamps_of, place_of, disk_of, records_of, live_of};
+    ghost use Rattle.iot_client.specs.Ties.{IsTied, AreBegun, AreFound, AreOwnRuns};
 
     /// Starts the client at this place from its disk, which no one else writes; it runs no script. A disk on which nothing was started
-    /// becomes that of a client that knows nothing yet. A transaction that runs is second class, and is only to be cut. The disk comes
-    /// back if this gives no client.
+    /// becomes that of a client that knows nothing yet. The transactions that run are second class, and are only to be cut. The disk
+    /// comes back if this gives no client.
     ///
     /// # Errors
     ///
@@ -55,7 +56,7 @@ impl<D: Disk> Client<D> {
         ensures only { (state : State) → StandFor (D.medium.reads disk) state
             → IfOk result (λ client. state_of client ≡ state) }
         ensures tied { IfOk result (λ client. IsTied D.medium client) }
-        ensures live { IfOk result (λ client. live_of client ≡ None) }
+        ensures live { IfOk result (λ client. AreFound (live_of client)) }
         ensures place { IfOk result (λ client. place_of client ≡ me) }
 
         // No stamp of a server is known.
@@ -110,11 +111,7 @@ impl<D: Disk> Client<D> {
             (λ refused. D.medium.arms refused.0 ≡ D.medium.arms disk) }
     {
         match Kept::start(alloc, disk) {
-            Ok(kept) => Ok(Client {
-                me,
-                kept,
-                interpreter: None,
-            }),
+            Ok(kept) => Client::seated(alloc, kept, me),
             Err(refused) => Err(refused),
         }
     }
@@ -126,13 +123,10 @@ impl<D: Disk> Client<D> {
         self.me
     }
 
-    /// The tree that scripts read: the held one after all that waits and runs.
+    /// The view: the held tree after all that waits. A transaction that runs has a view of its own, `Running::view`.
     pub fn view(&self) -> &Tree
         requires { IsTied D.medium self.now }
-        ensures view { result.now ≡ view (state_of self.now) }
-
-        // The running acts are those of the transaction's script.
-        ensures run { IsBegunIfAny (state_of self.now).running (live_of self.now) → IsOwnRunIfAny (state_of self.now) (live_of self.now) }
+        ensures { result.now ≡ view (state_of self.now) }
     {
         self.kept.view()
     }
@@ -151,22 +145,29 @@ impl<D: Disk> Client<D> {
         self.kept.queue()
     }
 
-    /// The transaction that runs, if one does.
-    pub fn running(&self) -> Option<&Running>
+    /// The transactions that run, in the order of their numbers.
+    pub fn running(&self) -> &[Running]
         requires { IsTied D.medium self.now }
-        ensures running { transaction_of (option_copied result) ≡ (state_of self.now).running }
-        ensures class { class_of (option_copied result) ≡ class_by (state_of self.now).running (live_of self.now) }
+        ensures running { transactions result.now ≡ (state_of self.now).running }
+        ensures classes { classes_of result.now ≡ map (λ live. live.first) (live_of self.now) }
+        ensures sees { AllByRecursion SeesOwn result.now }
+
+        // The acts of each are those of its script on its base, and its own view is that run's tree.
+        ensures runs { AreOwnRuns (state_of self.now).running (live_of self.now) }
     {
         self.kept.running()
     }
 
-    /// Whether a transaction runs whose script has ended.
-    pub fn at_end(&self) -> bool
-        requires tied { IsTied D.medium self.now }
-        requires begun { IsBegunIfAny (state_of self.now).running (live_of self.now) }
-        ensures { result ≡ is_over_if_any (state_of self.now) (live_of self.now) }
+    /// Whether the transaction with this number runs, and its script has ended.
+    pub fn at_end(&self, number: u64) -> bool
+        requires { IsTied D.medium self.now }
+        ensures { result ≡ is_over_if_any (numbered number (state_of self.now).running)
+            (live_numbered number (state_of self.now).running (live_of self.now)) }
     {
-        match &self.interpreter {
+        let Some(at) = self.place_of(number) else {
+            return false;
+        };
+        match &self.interpreters[at] {
             Some(interpreter) => interpreter.exec.at_end(),
             None => false,
         }
@@ -201,5 +202,33 @@ impl<D: Disk> Client<D> {
         ensures stands { IsTied D.medium self → EachStands (D.medium.may_leave result) (records_of self) (state_of self) }
     {
         self.kept.into_disk()
+    }
+}
+
+impl<D: Disk> Client<D> {
+    ghost use Rattle.iot_client.specs.Ties.{live_of, IsTied, AreFound};
+
+    /// The client at this place that has just started: what runs has no interpreter. The disk comes back if memory runs out.
+    fn seated(alloc: Global, kept: Kept<D>, me: u64) -> Result<Client<D>, (D, StartFault)>
+        requires synced { IsSynced D.medium kept }
+        requires second { AreSecond (classes_in kept) }
+        ensures made { IfOk result (λ client. client.kept ≡ kept) }
+        ensures place { IfOk result (λ client. client.me ≡ me) }
+        ensures tied { IfOk result (λ client. IsTied D.medium client) }
+        ensures live { IfOk result (λ client. AreFound (live_of client)) }
+        ensures back { IfErr result (λ refused. (refused.1 ≡ StartFault.NoMemory) × (refused.0 ≡ disk_in kept)) }
+    {
+        let mut interpreters = Vec::new(alloc);
+        'interpreters: for _ in 0..kept.running().len() {
+            match interpreters.push(None) {
+                Ok(()) => (),
+                Err(_) => return Err((kept.into_disk(), StartFault::NoMemory)),
+            }
+        }
+        Ok(Client {
+            me,
+            kept,
+            interpreters,
+        })
     }
 }

@@ -20,16 +20,16 @@ pub enum ClientFault {
     #[error("the disk failed")]
     Stopped,
 
-    /// A transaction runs.
-    #[error("a transaction runs")]
+    /// As many transactions run as may.
+    #[error("too many transactions run")]
     Busy,
 
     /// Transactions wait.
     #[error("transactions wait")]
     Pending,
 
-    /// No transaction runs.
-    #[error("no transaction runs")]
+    /// The transaction does not run.
+    #[error("the transaction does not run")]
     Idle,
 
     /// The script has not ended, and may do more acts.

@@ -1,4 +1,4 @@
-//! A client over its disk: what it holds of the server's tree, its transactions that wait, and the one that runs. Each of its changes is
+//! A client over its disk: what it holds of the server's tree, its transactions that wait, and those that run. Each of its changes is
 //! one record on the disk.
 #![tactic(auto)]
 
@@ -10,6 +10,7 @@ mod interpreter;
 mod noted;
 mod noting;
 mod objects;
+mod questions;
 mod refusals;
 mod replies;
 mod requests;
@@ -24,4 +25,5 @@ pub use fault::ClientFault;
 pub use iot_disk::StartFault;
 pub use iot_kept::Running;
 pub use noted::Noted;
+pub use questions::question_at;
 pub use steps::Step;

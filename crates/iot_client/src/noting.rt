@@ -3,7 +3,7 @@ ghost use Rattle.std.specs.Prelude.{◌≡◌, IfErr, OnOk, IsErrOf};
 ghost use Rattle.iot_changes.specs.Rules.{IsChange};
 ghost use Rattle.iot_kept.specs.Changes.{CanFollow};
 ghost use Rattle.iot_kept.specs.Kept.{IsSynced};
-ghost use Rattle.iot_kept.specs.Memory.{class_after};
+ghost use Rattle.iot_kept.specs.Memory.{classes_after};
 ghost use Rattle.iot_kept.specs.States.{view};
 ghost use Rattle.iot_client.specs.Calls.{Stays, ChangesHead, Notes, CutsOff};
 ghost use Rattle.iot_client.specs.Faults.{CountsFault, MayFail};
@@ -15,7 +15,7 @@ use iot_kept::Change;
 use std::alloc::Global;
 
 impl<D: Disk> Client<D> {
-    ghost use Rattle.iot_client.specs.Ties.{state_of, disk_of, records_of, class_in, live_of, IsTied};
+    ghost use Rattle.iot_client.specs.Ties.{state_of, disk_of, records_of, classes_in, live_of, IsTied};
 
     /// Makes a change that can follow, and appends its record.
     pub(crate) fn note(&mut self, alloc: Global, change: Change) -> Result<(), ClientFault>
@@ -23,9 +23,10 @@ impl<D: Disk> Client<D> {
         requires change { IsChange change }
         requires follows { CanFollow (state_of self.old) change }
         ensures notes { OnOk result (Notes change self.old self.new) }
-        ensures class { OnOk result (class_in self.new ≡ class_after change (class_in self.old)) }
+        ensures classes { OnOk result
+            (classes_in self.new ≡ classes_after change (state_of self.old).running (classes_in self.old)) }
         ensures synced { OnOk result (IsSynced D.medium self.new.kept) }
-        ensures interpreter { self.new.interpreter ≡ self.old.interpreter }
+        ensures interpreters { self.new.interpreters ≡ self.old.interpreters }
         ensures fails { IfErr result MayFail }
         ensures counts { CountsFault result (D.medium.faults (disk_of self.old)) (D.medium.faults (disk_of self.new)) }
         ensures arms { D.medium.arms (disk_of self.new) ≡ D.medium.arms (disk_of self.old) }

@@ -1,9 +1,9 @@
 //! Asking for objects, and holding what a reply brings.
-ghost use Rattle.std.specs.Prelude.{◌≡◌, ◌≤◌, None, Ok, IfOk, OnOk, IsErrOf};
+ghost use Rattle.std.specs.Prelude.{◌≡◌, ◌≤◌, Ok, IfOk, OnOk, IsErrOf};
 ghost use Rattle.iot_kept.specs.Bringing.{brought_for};
 ghost use Rattle.iot_kept.specs.Changes.{CanFollow};
 ghost use Rattle.iot_kept.specs.Kept.{IsSynced};
-ghost use Rattle.iot_client.specs.Calls.{Stays, unready, RefusesFor, RefusesReply, EndsBy, Brings, CutsOffByTree};
+ghost use Rattle.iot_client.specs.Calls.{Stays, pending, RefusesFor, RefusesReply, EndsBy, Brings, CutsOffByTree};
 ghost use Rattle.iot_client.specs.Faults.{CountsFault};
 ghost use Rattle.iot_wire.specs.Meanings.{IsRefresh};
 ghost use Rattle.iot_client.specs.Messages.{objects_in, MakesTree, ReadsObjects};
@@ -23,38 +23,38 @@ use iot_tree::{Changes, Duplicate, Want};
 use std::alloc::Global;
 
 impl<D: Disk> Client<D> {
-    ghost use Rattle.iot_client.specs.Ties.{state_of, stamps_of, place_of, disk_of, records_of, class_in, live_of, IsTied};
+    ghost use Rattle.iot_client.specs.Ties.{state_of, stamps_of, place_of, disk_of, records_of, classes_in, live_of, IsTied};
 
     /// The request for what is wanted, and for what is known of the held tree. It changes nothing.
     ///
     /// # Errors
     ///
-    /// `Busy` if a transaction runs, `Pending` if one waits, `NoMemory`.
+    /// `Pending` if a transaction waits, `NoMemory`.
     pub fn ask(&self, alloc: Global, want: &Want) -> Result<Vec<u8>, ClientFault>
         requires { place_of self.now ≤ 7 }
         ensures request { IfOk result (λ bytes. IsRefresh (place_of self.now) (stamps_of self.now) want.now bytes.items) }
-        ensures refuses { RefusesFor (unready (state_of self.now).running (state_of self.now).items) result }
+        ensures refuses { RefusesFor (pending (state_of self.now).items) result }
     {
-        match self.unready() {
+        match self.pending() {
             Some(fault) => Err(fault),
             None => Ok(self.request_for(alloc, want.copy(alloc)?)?.into_bytes()),
         }
     }
 
-    /// Merges the changes that the reply brings into the held tree. Appends one record, as long as that tree; a reply that brings nothing
-    /// costs no more than to append it.
+    /// Merges the changes that the reply brings into the held tree; what runs goes on, on its own view. Appends one record, as long as
+    /// that tree; a reply that brings nothing costs no more than to append it.
     ///
     /// # Errors
     ///
-    /// `Busy` if a transaction runs, `Pending` if one waits, `BadReply` if the bytes are no reply that brings changes, or, at their end, if
-    /// these make no tree of the held one, `NoMemory`, `Stopped`.
+    /// `Pending` if a transaction waits, `BadReply` if the bytes are no reply that brings changes, or, at their end, if these make no tree
+    /// of the held one, `NoMemory`, `Stopped`.
     pub fn take_objects(&mut self, alloc: Global, reply: &[u8]) -> Result<(), ClientFault>
         requires { IsTied D.medium self.old }
         ensures brings { OnOk result (Brings Purpose.Hold reply.now self.old self.new) }
         ensures only { ReadsObjects reply.now }
-        ensures live { OnOk result (live_of self.new ≡ None) }
+        ensures live { OnOk result (live_of self.new ≡ live_of self.old) }
         ensures tied { OnOk result (IsTied D.medium self.new) }
-        ensures refuses { RefusesReply (unready (state_of self.old).running (state_of self.old).items)
+        ensures refuses { RefusesReply (pending (state_of self.old).items)
             (MakesTree (stamps_of self.old) reply.now) self.old self.new result }
         ensures counts { CountsFault result (D.medium.faults (disk_of self.old)) (D.medium.faults (disk_of self.new)) }
         ensures arms { D.medium.arms (disk_of self.new) ≡ D.medium.arms (disk_of self.old) }
@@ -62,7 +62,7 @@ impl<D: Disk> Client<D> {
             (stamps_of self.old) (state_of self.old) (records_of self.old) (D.medium.may_leave (disk_of self.new)) }
         ensures no_memory { IsErrOf result ClientFault.NoMemory → Stays D.medium self.old self.new }
     {
-        match self.unready() {
+        match self.pending() {
             Some(refusal) => Err(refusal),
             None => {
                 let changes = objects(alloc, reply)?;
@@ -93,9 +93,9 @@ impl<D: Disk> Client<D> {
         requires spelled { IsMessage IsReply reply_spelling reply.now (Objects changes) }
         requires follows { CanFollow (state_of self.old) (brought_for purpose (state_of self.old).held) }
         ensures brings { OnOk result (Brings purpose reply.now self.old self.new) }
-        ensures class { OnOk result (class_in self.new ≡ class_in self.old) }
+        ensures classes { OnOk result (classes_in self.new ≡ classes_in self.old) }
         ensures synced { OnOk result (IsSynced D.medium self.new.kept) }
-        ensures interpreter { self.new.interpreter ≡ self.old.interpreter }
+        ensures interpreters { self.new.interpreters ≡ self.old.interpreters }
         ensures ends { EndsBy (MakesTree (stamps_of self.old) reply.now) self.old self.new result }
         ensures counts { CountsFault result (D.medium.faults (disk_of self.old)) (D.medium.faults (disk_of self.new)) }
         ensures arms { D.medium.arms (disk_of self.new) ≡ D.medium.arms (disk_of self.old) }

@@ -1,56 +1,55 @@
 //! Why a call is refused.
-ghost use Rattle.std.specs.Prelude.{◌≡◌, None, IfSome};
+ghost use Rattle.std.specs.Prelude.{◌≡◌, IfSome};
 ghost use Rattle.iot_exec.specs.Execs.{place, act_count};
 ghost use Rattle.iot_exec.specs.Places.{is_over};
-ghost use Rattle.iot_client.specs.Calls.{busy, unready, idle, may_end, unended, not_at_end, empty_queue, not_manual_in, not_manual};
+ghost use Rattle.iot_client.specs.Calls.{busy, pending, may_end_if_any, live_numbered, unended, not_at_end, empty_queue};
+ghost use Rattle.iot_client.specs.Calls.{not_manual_in, not_manual};
+ghost use Rattle.iot_kept.specs.States.{numbered};
 ghost use Rattle.iot_client.specs.Faults.{IsNoStop};
 
 use crate::client::Client;
 use crate::fault::ClientFault;
 use iot_disk::Disk;
 use iot_exec::Exec;
-use iot_queue::{Queue, Stage};
+use iot_kept::RUN_LIMIT;
+use iot_queue::Stage;
 
 impl<D: Disk> Client<D> {
-    ghost use Rattle.iot_client.specs.Ties.{state_of, live_of, IsTied, IsBegunIfAny};
+    ghost use Rattle.iot_client.specs.Ties.{state_of, live_of, IsTied, AreBegun};
 
     pub(crate) fn busy(&self) -> Option<ClientFault>
         ensures cause { result ≡ busy (state_of self.now).running }
         ensures fault { IfSome result IsNoStop }
     {
-        match self.kept.running() {
-            Some(_) => Some(ClientFault::Busy),
+        if self.kept.running().len() < RUN_LIMIT {
+            None
+        } else {
+            Some(ClientFault::Busy)
+        }
+    }
+
+    pub(crate) fn pending(&self) -> Option<ClientFault>
+        ensures cause { result ≡ pending (state_of self.now).items }
+        ensures fault { IfSome result IsNoStop }
+    {
+        match self.kept.queue().head() {
+            Some(_) => Some(ClientFault::Pending),
             None => None,
         }
     }
 
-    pub(crate) fn unready(&self) -> Option<ClientFault>
-        ensures cause { result ≡ unready (state_of self.now).running (state_of self.now).items }
-        ensures fault { IfSome result IsNoStop }
-    {
-        match self.kept.running() {
-            Some(_) => Some(ClientFault::Busy),
-            None => pending(self.kept.queue()),
-        }
-    }
-
-    pub(crate) fn idle(&self) -> Option<ClientFault>
-        ensures cause { result ≡ idle (state_of self.now).running }
-        ensures fault { IfSome result IsNoStop }
-    {
-        match self.kept.running() {
-            Some(_) => None,
-            None => Some(ClientFault::Idle),
-        }
-    }
-
-    pub(crate) fn unended(&self) -> Option<ClientFault>
+    pub(crate) fn unended(&self, number: u64) -> Option<ClientFault>
         requires tied { IsTied D.medium self.now }
-        requires begun { IsBegunIfAny (state_of self.now).running (live_of self.now) }
-        ensures cause { result ≡ unended (state_of self.now).running (may_end (state_of self.now) (live_of self.now)) }
+        requires begun { AreBegun (live_of self.now) }
+        ensures cause { result ≡ unended (numbered number (state_of self.now).running)
+            (may_end_if_any (numbered number (state_of self.now).running)
+            (live_numbered number (state_of self.now).running (live_of self.now))) }
         ensures fault { IfSome result IsNoStop }
     {
-        match &self.interpreter {
+        let Some(at) = self.place_of(number) else {
+            return Some(ClientFault::Idle);
+        };
+        match &self.interpreters[at] {
             Some(interpreter) => not_at_end(&interpreter.exec),
             None => Some(ClientFault::Idle),
         }
@@ -74,17 +73,6 @@ impl<D: Disk> Client<D> {
             Some(item) => not_manual_in(&item.stage),
             None => Some(ClientFault::Nothing),
         }
-    }
-}
-
-/// `Pending` if one waits.
-fn pending(queue: &Queue) -> Option<ClientFault>
-    ensures cause { result ≡ unready None queue.now }
-    ensures fault { IfSome result IsNoStop }
-{
-    match queue.head() {
-        Some(_) => Some(ClientFault::Pending),
-        None => None,
     }
 }
 

@@ -1,6 +1,6 @@
 use Rattle.std.proofs.Common.{Err, sym, ap, subst}
 use Rattle.iot_kept.specs.declared.kept.Kept.{Kept}
-use Rattle.iot_kept.proofs.BringingLaws.{brings_spelled, follows_with}
+use Rattle.iot_kept.proofs.BringingLaws.{brings_spelled, follows_with, purpose_spelled}
 use Rattle.iot_kept.proofs.SyncedLaws.{synced_spelled}
 use Rattle.iot_client.specs.Calls.{EndsBy}
 use Rattle.iot_client.specs.Messages.{MakesTree, made, no_tree}
@@ -22,6 +22,7 @@ pub returns-in-Err-Stopped-clause-stopped : goal.returns-in-Err-Stopped-clause-s
 returns-in-Err-Stopped-clause-stopped g c = λ is.
     let old = c.args.self.now in
     let done = c.in-Err-Stopped.ensures in
+    let spelled = synced_spelled _ old.kept c.requires.synced in
     record {
       changes = c.args.changes;
       read = c.requires.read;
@@ -29,8 +30,9 @@ returns-in-Err-Stopped-clause-stopped g c = λ is.
       tree = done.stopped (ap Err c.in-Err-Stopped.field-0-is);
       cuts_off = record {
         spelled =
-            brings_spelled (stamps_of old) c.args.changes (synced_spelled _ old.kept c.requires.synced).held c.requires.spelled.value
-            c.args.purpose (done.stopped (ap Err c.in-Err-Stopped.field-0-is));
+            brings_spelled (stamps_of old) c.args.changes spelled.held c.requires.spelled.value c.args.purpose
+            (purpose_spelled c.args.purpose (state_of old) (state_of old).held spelled c.requires.follows)
+            (done.stopped (ap Err c.in-Err-Stopped.field-0-is));
         follows = follows_with (state_of old) c.args.purpose _ _ c.requires.follows;
         either = done.images;
       };
