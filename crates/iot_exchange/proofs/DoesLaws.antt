@@ -16,7 +16,11 @@ use Rattle.iot_exchange.specs.Words.{Asks, Answers, Tells, Then, Goes, either, R
 use Rattle.iot_exchange.specs.Words.{Pair, OnConflict, unless_stopped, Notes, KeepsDisk, StepsTo, Halt, NoMemory, Over, disk_of}
 use Rattle.iot_exchange.specs.Words.{ServerStands, ServerNode, KeepsRecords, Stands, awake, disk_in, SamePlace, Laptop, NotesAlone, Whole}
 use Rattle.iot_exchange.specs.Words.{is_alive, fallen, Nodes, after_acts, Item, is_drained, IfUp, line, pends, runs, SyncsAll, ItemsStand}
-use Rattle.iot_exchange.specs.Words.{KeepsTrails, UnlessNoMemory, state_in, stamps_in, waits_of, ClientStands}
+use Rattle.iot_exchange.specs.Words.{KeepsTrails, UnlessNoMemory, state_in, stamps_in, waits_of, ClientStands, done, has_any, kept}
+use Rattle.iot_exchange.specs.Words.{Compared, Compares, Yields, yield_if, YieldsAlone, YieldsAndNotes, yields_by, yielding}
+use Rattle.iot_exchange.specs.Words.{CertifiesAlone, ComparesAlone, certify_alone, change_by, notes_found}
+use Rattle.iot_laptop.specs.Alone as alone
+use Rattle.iot_machine.specs.Transactions as machine
 use Rattle.iot_judging.specs.Lists.{Follows}
 use Rattle.iot_judging.proofs.FollowingLaws.{follows_kept}
 use Rattle.iot_exchange.specs.Pairs.{Both, two, IsAt, UpStands, AnyStands, IsReadyWith, IsStandingWith, KeepsDisks, PairStands, Does}
@@ -240,10 +244,10 @@ lift_then lifts each = record {
       );
 }
 
--- the same answer, and no change but of the class
-lift_class : {A : Type 0} (a : A) (change : Client → Client) → ((m : Client) → (change m).name ≡ m.name)
-    → Lifts (Gets (λ _. a) change) (Gets (λ _. a) (λ pair. record pair { client = change pair.client }))
-lift_class a change same = record {
+-- a look at the client, and no change but of its classes
+lift_gets : {A : Type 0} (ask : Client → A) (change : Client → Client) → ((m : Client) → (change m).name ≡ m.name)
+    → Lifts (Gets ask change) (Gets (λ pair. ask pair.client) (λ pair. record pair { client = change pair.client }))
+lift_gets ask change same = record {
   lift = λ pair text b n it.
       ((it.0, it.1, (λ i. record pair { client = it.2 i })), ap (λ (client : Client). client.name) it.2 ∙ same pair.client);
 }
@@ -252,18 +256,93 @@ lift_class a change same = record {
 pub notes : (change : ClientState → ClientState) → Lifts (NotesAlone change) (Notes change)
 notes change = lift_then (record {
   lift = λ pair text a n it. (record { inner = n; step = it; is = refl }, ap (λ (client : Client). client.name) it.is);
-}) (λ on. lift_class (unless_stopped on) (λ m. m) (λ m. refl))
+}) (λ on. lift_gets (λ _. unless_stopped on) (λ m. m) (λ m. refl))
 
 lift_unless : {A B : Type 0} {next : A → Try Client B} {more : A → Try Pair B} → ((a : A) → Lifts (next a) (more a)) → (o : Option A)
     → Lifts (unless_over next o) (unless_over more o)
-lift_unless each None = lift_class None (λ m. m) (λ m. refl)
+lift_unless each None = lift_gets (λ _. None) (λ m. m) (λ m. refl)
 lift_unless each (Some a) = each a
 
 -- the beginning of a transaction
 pub starts : (script : Declared) (option : OnConflict Declared) (first : Bool)
     → Lifts (StartsAlone script option first) (Starts script option first)
-starts script option first =
-    lift_then (notes (begin script option)) (lift_unless (λ done. lift_class (Some tt) (set_class first) (λ m. refl)))
+starts script option first = lift_then (lift_gets (λ client. client.node.durable.last + 1) (λ m. m) (λ m. refl)) (λ number.
+    lift_then (notes (begin script option)) (lift_unless (λ done. lift_gets (λ _. Some number) (set_class number first) (λ m. refl))))
+
+-- ---- one that yields
+
+pub yields_name : (number : ℕ) (pends : Bool) (m : Client) → (yields_by number pends m).name ≡ m.name
+yields_name number true m = refl
+yields_name number false m = refl
+
+-- only classes change
+pub yields_kept : (number : ℕ) (pends : Bool) (m : Client) → (yields_by number pends m).node ≡ m.node
+yields_kept number true m = refl
+yields_kept number false m = refl
+
+yields_by_pair : (number : ℕ) (pends : Bool) (pair : Pair)
+    → record pair { client = yields_by number pends pair.client } ≡ yield_if number pends pair
+yields_by_pair number true pair = refl
+yields_by_pair number false pair = refl
+
+pub yields_pair : (number : ℕ) (pair : Pair) → record pair { client = yielding number pair.client } ≡ yield_if number (pends pair) pair
+yields_pair number pair = yields_by_pair number (pends pair) pair
+
+pub yields : (number : ℕ) → Lifts (YieldsAlone number) (Yields number)
+yields number = record {
+  lift = λ pair text a n it. (
+    (it.0, (λ i. record pair { client = it.1 i }) ∙ yields_pair number pair),
+    ap (λ (client : Client). client.name) it.1 ∙ yields_name number (has_any pair.client.node.durable.items) pair.client,
+  );
+}
+
+pub yields_then : (number : ℕ) (change : ClientState → ClientState)
+    → Lifts (YieldsAndNotes number change) (Then (Yields number) (λ _. Notes change))
+yields_then number change = lift_then (yields number) (λ _. notes change)
+
+-- ---- one that is certified
+
+compares : (it : clients.Running) → Lifts (ComparesAlone it) (Compares it)
+compares it = record { lift = by }
+  where
+    by : (pair : Pair) (text : List ℕ) (found : Compared) (n : Client) → ComparesAlone it pair.client text found n
+        → Compares it pair text found (record pair { client = n }) × (n.name ≡ pair.client.name)
+    by pair text found n (alone.same is silent same stays) =
+        (machine.same is silent same (λ i. record pair { client = stays i }), ap (λ (client : Client). client.name) stays)
+    by pair text found n (alone.parts read question is silent same stays) = (
+      machine.parts read question is silent same (λ i. record pair { client = stays i }),
+      ap (λ (client : Client). client.name) stays,
+    )
+
+-- what was found is noted
+abbrev pub noted : (number : ℕ) → Compared → Try Pair Compared
+noted number found = Goes (Notes (change_by number found)) (λ _. Answers (Some found))
+
+abbrev pub certifying : Option clients.Running → Try Pair Compared
+certifying None = Answers None
+certifying (Some it) = Then (Yields it.number) (λ _. Then (Compares it) (noted it.number))
+
+-- the one with this number is certified, and what was found is noted
+abbrev pub Certifying : (number : ℕ) → Try Pair Compared
+Certifying number = Then (Asks (λ pair. clients.numbered number (kept pair))) certifying
+
+lift_noted : (number : ℕ) (found : Compared) → Lifts (notes_found number found) (noted number found)
+lift_noted number found =
+    lift_then (notes (change_by number found)) (lift_unless (λ _. lift_gets (λ _. Some found) (λ m. m) (λ m. refl)))
+
+lift_certifying : (o : Option clients.Running) → Lifts (certify_alone o) (certifying o)
+lift_certifying None = lift_gets (λ _. None) (λ m. m) (λ m. refl)
+lift_certifying (Some it) = lift_then (yields it.number) (λ _. lift_then (compares it) (lift_noted it.number))
+
+pub certifies_one : (number : ℕ) → Lifts (CertifiesAlone number) (Certifying number)
+certifies_one number = lift_then (lift_gets (λ client. clients.numbered number client.node.durable) (λ m. m) (λ m. refl)) lift_certifying
+
+-- ---- one call of the client
+
+-- a call that answers nothing is done, or was not
+just_done : (result : Result (Unit {0}) Halt) → done result ≡ result
+just_done (Ok a) = refl
+just_done (Err halt) = refl
 
 -- what the client holds after a call still follows the server's list, unless memory ran out
 abbrev pub FollowsNow : {D : Type 0} → Medium D → List Declared → Both D → Laptop D → Result (Unit {0}) Halt → Type 0
@@ -302,28 +381,43 @@ module _ {D : Type 0} {medium : Medium D} where
         );
   }
 
-  pub by_call : {scripts : List Declared} {one : Try Client (Unit {0})} {call : Try Pair (Unit {0})} {u v : Both D} {new : Laptop D}
-      {x y : List ℕ} {result : Result (Unit {0}) Halt} → Lifts one call → KeepsDisks medium u v → SamePlace v.laptop new
-      → FollowsNow medium scripts v new result → EndsAlone medium scripts one v.laptop new x y result
+  -- one that answers anything
+  pub by_call_of : {A : Type 0} {scripts : List Declared} {one : Try Client A} {call : Try Pair A} {u v : Both D} {new : Laptop D}
+      {x y : List ℕ} {result : Result A Halt} → Lifts one call → KeepsDisks medium u v → SamePlace v.laptop new
+      → FollowsNow medium scripts v new (done result) → EndsAlone medium scripts one v.laptop new x y result
       → KeepsDisk medium (disk_in v.laptop) (disk_in new) → Does medium scripts call v (two new v.server) x y result
-  by_call {result = Err NoMemory} lifts keeps place follows it more =
+  by_call_of {result = Err NoMemory} lifts keeps place follows it more =
       record { step = λ names c. record { is = tt }; disks = keeps_more (keeps_now keeps) more }
-  by_call {result = Err Over} lifts keeps place follows it more = record {
+  by_call_of {result = Err Over} lifts keeps place follows it more = record {
     step = λ names c. record { is = lifted names c lifts place (follows names c) it.is };
     disks = keeps_more (keeps_now keeps) more;
   }
-  by_call {result = Ok done} lifts keeps place follows it more = record {
+  by_call_of {result = Ok a} lifts keeps place follows it more = record {
     step = λ names c. record { is = lifted names c lifts place (follows names c) it.is };
     disks = keeps_more (keeps_now keeps) more;
   }
 
-  -- one that does not ask the server
-  pub by_client : {scripts : List Declared} {one : Try Client (Unit {0})} {call : Try Pair (Unit {0})} {u v : Both D} {new : Laptop D}
-      {x y : List ℕ} {result : Result (Unit {0}) Halt} → Lifts one call → KeepsDisks medium u v → SamePlace v.laptop new
-      → UnlessNoMemory result (KeepsTrails v.laptop new) → EndsAlone medium scripts one v.laptop new x y result
+  -- and does not ask the server
+  pub by_client_of : {A : Type 0} {scripts : List Declared} {one : Try Client A} {call : Try Pair A} {u v : Both D} {new : Laptop D}
+      {x y : List ℕ} {result : Result A Halt} → Lifts one call → KeepsDisks medium u v → SamePlace v.laptop new
+      → UnlessNoMemory (done result) (KeepsTrails v.laptop new) → EndsAlone medium scripts one v.laptop new x y result
       → KeepsDisk medium (disk_in v.laptop) (disk_in new) → Does medium scripts call v (two new v.server) x y result
-  by_client {scripts = scripts} {v = v} {new = new} {result = result} lifts keeps place trails it more =
-      by_call lifts keeps place (still_follows medium scripts v new result trails) it more
+  by_client_of {scripts = scripts} {v = v} {new = new} {result = result} lifts keeps place trails it more =
+      by_call_of lifts keeps place (still_follows medium scripts v new (done result) trails) it more
+
+  module _ {scripts : List Declared} {one : Try Client (Unit {0})} {call : Try Pair (Unit {0})} {u v : Both D} {new : Laptop D}
+      {x y : List ℕ} {result : Result (Unit {0}) Halt} (lifts : Lifts one call) (keeps : KeepsDisks medium u v)
+      (place : SamePlace v.laptop new) where
+    pub by_call : FollowsNow medium scripts v new result → EndsAlone medium scripts one v.laptop new x y result
+        → KeepsDisk medium (disk_in v.laptop) (disk_in new) → Does medium scripts call v (two new v.server) x y result
+    by_call follows it more =
+        by_call_of lifts keeps place
+        (subst (λ (r : Result (Unit {0}) Halt). FollowsNow medium scripts v new r) (sym (just_done result)) follows) it more
+
+    -- one that does not ask the server
+    pub by_client : UnlessNoMemory result (KeepsTrails v.laptop new) → EndsAlone medium scripts one v.laptop new x y result
+        → KeepsDisk medium (disk_in v.laptop) (disk_in new) → Does medium scripts call v (two new v.server) x y result
+    by_client trails it more = by_call (still_follows medium scripts v new result trails) it more
 
 -- ---- again and again
 
@@ -388,13 +482,13 @@ module _ {D : Type 0} {medium : Medium D} {scripts : List Declared} {u : Both D}
   pub up_is : u.laptop.link.up ≡ b → OfEach medium scripts u (λ pair. b ≡ pair.client.link.up)
   up_is is names c pair here = sym is ∙ ap (λ link. link.up) here.client.is.link
 
-  pub drained_is : (is_alive u.laptop && not (waits_of (state_in u.laptop).items) && not (is_some (state_in u.laptop).running)
+  pub drained_is : (is_alive u.laptop && not (waits_of (state_in u.laptop).items) && not (has_any (state_in u.laptop).running)
       && u.laptop.link.up) ≡ b → OfEach medium scripts u (λ pair. b ≡ is_drained pair)
   drained_is is names c pair here =
       let it = here.client.is in
       let alive = is_awake medium scripts u.laptop pair.client it in
       let waits : waits_of (state_in u.laptop).items ≡ pends pair = waits_is _ _ _ _ it.state in
-      let does_run : is_some (state_in u.laptop).running ≡ runs pair = runs_is _ _ _ _ it.state in
+      let does_run : has_any (state_in u.laptop).running ≡ runs pair = runs_is _ _ _ _ it.state in
       sym is ∙ (λ i. alive i && not (waits i) && not (does_run i) && (it.link i).up)
 
 -- ---- all of them

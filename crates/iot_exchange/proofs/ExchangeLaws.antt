@@ -1,16 +1,19 @@
 -- An exchange of a client with the server; what a client asks for, and holds if it comes; and what it knows of its transactions.
-use Rattle.std.proofs.Common.{◌≡◌, ℕ, ◌+◌, List, ◌++◌, Option, Some, None, Result, Ok, Err, Bool, true, false, Vec, refl, sym, ap, subst, ◌∙◌, []}
-use Rattle.std.proofs.Common.{◌∷◌, is_some, ◌<◌, ◌^◌, length, map, arith}
-use Rattle.std.specs.Prelude.{IfErr}
+use Rattle.std.proofs.Common.{◌≡◌, ℕ, ◌+◌, List, ◌++◌, Option, Some, None, Result, Ok, Err, Bool, true, false, Vec, refl, sym, ap, subst}
+use Rattle.std.proofs.Common.{◌∙◌, []}
+use Rattle.std.proofs.Common.{◌∷◌, ◌<◌, ◌^◌, length, map, arith}
+use Rattle.std.proofs.lemmas.Bool.{ltb-true}
+use Rattle.std.specs.Prelude.{IfErr, not, nat_lt}
 use Rattle.std.specs.declared.alloc.Global.{Global}
 use Rattle.iot_server_node.proofs.ServersLaws.{up_is}
-use Rattle.iot_standing.proofs.StatesLaws.{runs_is, waits_is}
+use Rattle.iot_standing.proofs.StatesLaws.{many_is, runs_is, waits_is}
 use Rattle.iot_link.specs.Links.{passage_by}
 use Rattle.iot_link.specs.declared.passages.Loss.{Loss}
 use Rattle.iot_link.specs.declared.passages.Loss.TheVariants as losses
-use Rattle.iot_exchange.specs.Words.{IsFree, passage, Passage, Away, RequestLost, ReplyLost, Both as Reaches, At, its_server, break}
+use Rattle.iot_exchange.specs.Words.{has_any, is_full, most_running}
+use Rattle.iot_exchange.specs.Words.{passage, Passage, Away, RequestLost, ReplyLost, Both as Reaches, At, its_server, break}
 use Rattle.iot_exchange.specs.Words.{Handles, exchange_by, Brings, holds, HavingAnswered, ServesBy, Served, Relinked, after_passage, Nodes}
-use Rattle.iot_exchange.specs.Words.{Want, Item, State, Medium, Call, Declared, ClientState, Client, Commit, Pair, Node, Submission, Lends}
+use Rattle.iot_exchange.specs.Words.{Want, Item, Medium, Call, Declared, ClientState, Client, Commit, Pair, Node, Submission, Lends}
 use Rattle.iot_exchange.specs.Words.{Judges, Exchange, Holds, runs, pends, StepsTo, Halt, IsRefresh, SpellsVerdict, SpellsCut, said_of}
 use Rattle.iot_exchange.specs.Words.{ServerStands, IsHanded, IsNamedIn, is_up, Message, ServerNode, LaptopStands, state_in, waits_of}
 use Rattle.iot_exchange.specs.Words.{Laptop, SpellsTree, BringsTree, AsksAll, FarDir, IsOneMessage, IsReply, IsWhole, Over, NoMemory, Row}
@@ -216,25 +219,31 @@ module _ {D : Type 0} {medium : Medium D} {old new : Laptop D} {server : ServerN
 
 -- ---- tests
 
-pub no_some : {A : Type 0} (o : Option A) → is_some o ≡ false → o ≡ None
-no_some None is = refl
-no_some (Some a) is = absurd cc
-
-no_items : (items : List Item) → waits_of items ≡ false → items ≡ []
+pub no_items : (items : List Item) → waits_of items ≡ false → items ≡ []
 no_items [] is = refl
 no_items (item ∷ items) is = absurd cc
 
-pub is_free : {s : State} → is_some s.running ≡ false → waits_of s.items ≡ false → IsFree s
-is_free {s} idle none = record { idle = no_some s.running idle; none = no_items s.items none }
-
 module _ {D : Type 0} {medium : Medium D} {scripts : List Declared} {u : Both D} {b : Bool} where
   -- whether a transaction runs
-  pub runs_here : is_some (state_in u.laptop).running ≡ b → OfEach medium scripts u (λ pair. b ≡ runs pair)
+  pub runs_here : has_any (state_in u.laptop).running ≡ b → OfEach medium scripts u (λ pair. b ≡ runs pair)
   runs_here is names c pair here = sym is ∙ runs_is _ _ _ _ here.client.is.state
+
+  -- whether as many run as may
+  pub full_here : not (nat_lt (length (state_in u.laptop).running) most_running) ≡ b → OfEach medium scripts u (λ pair. b ≡ is_full pair)
+  full_here is names c pair here =
+      sym is ∙ ap (λ (n : ℕ). not (nat_lt n most_running)) (many_is _ _ _ _ here.client.is.state)
 
   -- whether transactions wait
   pub pends_here : waits_of (state_in u.laptop).items ≡ b → OfEach medium scripts u (λ pair. b ≡ pends pair)
   pends_here is names c pair here = sym is ∙ waits_is _ _ _ _ here.client.is.state
+
+-- there is room for one
+pub has_room : (many : ℕ) → not (nat_lt many most_running) ≡ false → many < most_running
+has_room many is = by (nat_lt many most_running) refl is
+  where
+    by : (b : Bool) → nat_lt many most_running ≡ b → not b ≡ false → many < most_running
+    by true less is = ltb-true many most_running less
+    by false less is = absurd cc
 
 -- ---- what is held
 

@@ -1,7 +1,10 @@
+pub mod GroupingLaws
 pub mod StepsLaws
 pub mod FollowingLaws
 pub mod DoesLaws
 pub mod ExchangeLaws
 pub mod FirstLaws
 pub mod NamesLaws
+pub mod RunningLaws
 pub mod TransactionsLaws
+pub mod YieldingLaws

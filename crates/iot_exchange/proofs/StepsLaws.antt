@@ -1,5 +1,5 @@
 -- How calls that may end their event go together, over any world and any machine.
-use Rattle.std.proofs.Common.{◌≡◌, ℕ, List, [], ◌++◌, Some, None, Result, Ok, Err, IsErrAnd, refl, sym, ap, ◌∙◌, append_assoc}
+use Rattle.std.proofs.Common.{◌≡◌, ℕ, List, [], ◌++◌, Option, Some, None, Result, Ok, Err, IsErrAnd, refl, sym, ap, ◌∙◌, append_assoc}
 use Rattle.std.proofs.lemmas.List.{append-nil}
 use Rattle.iot_node.specs.Steps.{Ends}
 use Rattle.iot_exchange.specs.Words.{Call, Try, Gets, Asks, Tells, Then, Goes, OrSays, or_text, StepsTo, Halt, NoMemory, Over}
@@ -38,6 +38,17 @@ module _ {W M : Type 0} where
       whole = refl;
     };
     stands = more.stands;
+  }
+
+  -- one that may do all that another does
+  pub also : {A : Type 0} {P : W → M → Type 0} {call other : Call M A} {m : M} {v : W} {x y : List ℕ} {a : A}
+      → ((text : List ℕ) (n : M) → call m text a n → other m text a n) → Steps P call m v x y a → Steps P other m v x y a
+  also each it = record {
+    text = it.text;
+    next = it.next;
+    wrote = it.wrote;
+    step = each it.text it.next it.step;
+    stands = it.stands;
   }
 
   pub bind : {A B : Type 0} {P Q R : W → M → Type 0} {one : Call M A} {next : A → Call M B} {u v w : W} {x y z : List ℕ} {a : A} {b : B}
@@ -87,8 +98,16 @@ module _ {W M : Type 0} where
     from {result = Err NoMemory} it here = record { is = tt }
     from it here = record { is = at_one it.is here }
 
+    -- one that may do all that another does
+    pub also_from : {A : Type 0} {call other : Try M A} {m : M} {v : W} {x y : List ℕ} {result : Result A Halt}
+        → ((text : List ℕ) (o : Option A) (n : M) → call m text o n → other m text o n) → From up down call m v x y result
+        → From up down other m v x y result
+    also_from {result = Err NoMemory} each it = record { is = tt }
+    also_from {result = Err Over} each it = record { is = also (λ text n. each text None n) it.is }
+    also_from {result = Ok a} each it = record { is = also (λ text n. each text (Some a) n) it.is }
+
     -- what a call does behind another
-    behind : {A B : Type 0} {P : W → M → Type 0} {one : Call M A} {next : A → Try M B} {m : M} {v w : W} {x y z : List ℕ} {a : A}
+    pub behind : {A B : Type 0} {P : W → M → Type 0} {one : Call M A} {next : A → Try M B} {m : M} {v w : W} {x y z : List ℕ} {a : A}
         {result : Result B Halt} → (it : Steps P one m v x y a) → From up down (next a) it.next w y z result
         → From up down (Then one next) m w x z result
     behind {result = Err NoMemory} it more = record { is = tt }

@@ -2,4 +2,5 @@ pub mod Words
 pub mod Scripts
 pub mod Pairs
 pub mod Queues
+pub mod Ending
 pub mod Saying

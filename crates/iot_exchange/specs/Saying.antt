@@ -2,7 +2,9 @@
 use Rattle.iot_tree.specs.declared.labels.OnConflict.{OnConflict}
 use Rattle.iot_resolve.specs.declared.plan.Plan.{Plan}
 use Rattle.iot_machine.specs.Transactions as machine
-use Rattle.std.specs.Prelude.{◌++◌, if◌then◌else◌}
+use Rattle.std.specs.Prelude.{◌++◌, length, if◌then◌else◌}
+use Rattle.iot_inspect.specs.declared.waiting.RunLine.{RunLine}
+use Rattle.iot_kept.specs.declared.running.Running.{Running}
 use Rattle.iot_exchange.specs.Words.{codes, Ok, Err, Reexec, Resolver, Abort, Manual, abort_line, ℕ, Bool, true, false, List, [], leb}
 use Rattle.iot_exchange.specs.Words.{Result, ACT_LIMIT, Verdict, Settled, Conflict, settled_line, conflict_line, manual_line, Halt}
 use Rattle.iot_exchange.specs.declared.synced.Synced.{Synced}
@@ -22,6 +24,10 @@ synced_by (Err halt) = Err halt
 abbrev pub place_said : (at_end : Bool) → (acts : ℕ) → List ℕ
 place_said true acts = codes ", at end"
 place_said false acts = if leb ACT_LIMIT acts then codes ", at limit" else []
+
+-- what a line says of a transaction that runs
+abbrev pub line_of : Running → RunLine
+line_of it = record { tid = it.tid; script = it.script; first = it.first; acts = length it.acts }
 
 -- what a resolution is said to be by: the own script again, or the resolver's name
 abbrev pub resolver_said : Plan → List ℕ

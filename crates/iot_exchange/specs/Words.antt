@@ -25,41 +25,47 @@ pub use Rattle.iot_queue.specs.declared.items.Item.{Item}
 pub use Rattle.iot_queue.specs.declared.items.Resolution.{Resolution}
 pub use Rattle.iot_queue.specs.declared.items.Stage.{Stage}
 pub use Rattle.iot_kept.specs.Changes.{HeadIs, IsByHand, IsInConflict, IsSubmitted, IsSubmittedIn}
-pub use Rattle.iot_kept.specs.Memory.{class_of, transaction_of}
+pub use Rattle.iot_kept.specs.Memory.{classes_of, transaction, transactions}
 pub use Rattle.iot_kept.specs.States.{State}
 pub use Rattle.iot_stamp.specs.Stamps.{Stamps, nodes_of}
 pub use Rattle.iot_wire.specs.Meanings.{IsRefresh}
 pub use Rattle.iot_wire.specs.Messages.{IsOneMessage}
 pub use Rattle.iot_wire.specs.Rules.{IsReply}
 pub use Rattle.iot_wire.specs.Spelling.{reply_spelling}
-pub use Rattle.iot_client.specs.Calls.{is_over_if_any, may_end}
+pub use Rattle.iot_client.specs.Calls.{is_over_if_any, live_numbered, may_end_if_any}
 pub use Rattle.iot_client.specs.Messages.{nothing_held, way_of}
-pub use Rattle.iot_client.specs.Ties.{Live, class_by}
+pub use Rattle.iot_client.specs.Ties.{Live}
 pub use Rattle.iot_client.specs.declared.steps.Step.{Step}
 pub use Rattle.iot_inspect.specs.declared.waiting.RunLine.{RunLine}
 pub use Rattle.iot_judging.specs.Verdicts.{SpellsVerdict}
 pub use Rattle.iot_machine.specs.Calls.{Answers, Asks, At, Call, Gets, Goes, OrSays, Repeats, Tells, Then, Try, Whole, either, or_text}
 pub use Rattle.iot_machine.specs.Calls.{unless_over}
-pub use Rattle.iot_machine.specs.Clients.{AtEnd, AtLimit, ClientState, Declared, Next, Plan, Resolved, act_once, base, begin, end, fetch}
-pub use Rattle.iot_machine.specs.Clients.{hold, leave, local_run, new_client, next_away, next_by, next_step, plan_by, plan_of, reach}
-pub use Rattle.iot_machine.specs.Clients.{repair, resolution_of, so_far}
+pub use Rattle.iot_machine.specs.Clients.{Acts, AtEnd, AtLimit, ClientState, Declared, Fetches, Next, Plan, Resolved, act_once, again}
+pub use Rattle.iot_machine.specs.Clients.{begin}
+pub use Rattle.iot_machine.specs.Clients.{end, fetch, hold, leave, local_run, meant, most_running, new_client, next_away, next_by}
+pub use Rattle.iot_machine.specs.Clients.{next_step}
+pub use Rattle.iot_machine.specs.Clients.{plan_by, plan_of, reach, repair, resolution_of, so_far}
 pub use Rattle.iot_machine.specs.Events.{BeginsAloud, Closes, Discards, Drains, Hoards, IfUp, ReadsOf, Refreshes, Repairs, Runs, StepsAloud}
-pub use Rattle.iot_machine.specs.Events.{chosen, is_drained, place_text, run_steps, running_of, runs_script, says_reads, step_text}
-pub use Rattle.iot_machine.specs.Events.{task_part}
-pub use Rattle.iot_machine.specs.Machine.{Client, Commit, Pair, break, its_server, kept, no_script, script_at}
+pub use Rattle.iot_machine.specs.Events.{begin_text, chosen, is_drained, place_text, run_line, run_steps, running_in, runs_through}
+pub use Rattle.iot_machine.specs.Events.{says_reads, step_text, task_part}
+pub use Rattle.iot_machine.specs.Machine.{Client, Commit, Pair, break, is_first, its_server, kept, no_script, script_at}
 pub use Rattle.iot_machine.specs.Nodes.{Node}
 pub use Rattle.iot_machine.specs.Options.{OnConflict}
 pub use Rattle.iot_machine.specs.Recorded.{items_kept, queue_kept, stage_kept}
 pub use Rattle.iot_machine.specs.Serving.{Conflict, Judges, Lends, Settled, Submission, Verdict}
 pub use Rattle.iot_machine.specs.Sound.{CanResolve, IsPlanned}
-pub use Rattle.iot_machine.specs.Texts.{abort_line, begin_line, conflict_line, discard_line, end_line, fetch_line, hoard_line, line}
+pub use Rattle.iot_machine.specs.Texts.{abort_line, again_line, begin_line, conflict_line, discard_line, end_line, fetch_line, hoard_line}
+pub use Rattle.iot_machine.specs.Texts.{line}
 pub use Rattle.iot_machine.specs.Texts.{manual_line, pending_line, question_text, queue_text, refresh_line, repair_line, resolve_line}
 pub use Rattle.iot_machine.specs.Texts.{settled_line, step_line, transaction_name}
-pub use Rattle.iot_machine.specs.Transactions.{Begins, Brings, Ended, Ends, Exchange, Handles, Holds, IfManual, Moved, Notes, NotesAloud}
-pub use Rattle.iot_machine.specs.Transactions.{Refuses, Starts, Stays, Steps, Submits, Synced, Syncs, SyncsAll, Takes, Unanswered, end_by}
-pub use Rattle.iot_machine.specs.Transactions.{ended_of, exchange_by, fetched, holds, if_manual, if_runs, is_manual, item_name, joins}
-pub use Rattle.iot_machine.specs.Transactions.{moves, next_of, pends, resolves, runs, step_by, step_of, submission_of, submits, sync_at}
-pub use Rattle.iot_machine.specs.Transactions.{sync_head, sync_if, syncs_or_waits, told, took, unless_stopped, waits_unless}
+pub use Rattle.iot_machine.specs.Transactions.{Begins, Brings, Compared, Compares, Differs, Ended, Ends, Exchange, Handles, Holds, IfManual}
+pub use Rattle.iot_machine.specs.Transactions.{Moved, Notes, NotesAloud, Refuses, Same, Starts, Stays, Steps, Submits, Synced, Syncs}
+pub use Rattle.iot_machine.specs.Transactions.{SyncsAll, Takes, Unanswered, Yields, certifies, end_by, ended_of, ends_by, exchange_by}
+pub use Rattle.iot_machine.specs.Transactions.{fetched}
+pub use Rattle.iot_machine.specs.Transactions.{has_any, holds, if_manual, if_runs, is_full, is_manual, item_name, joins, moves, next_of}
+pub use Rattle.iot_machine.specs.Transactions.{pends, resolves, runs, starts_if, step_by, step_of, submission_of, submits, sync_at}
+pub use Rattle.iot_machine.specs.Transactions.{sync_head}
+pub use Rattle.iot_machine.specs.Transactions.{sync_if, syncs_or_waits, told, took, unless_stopped, waits_unless, yield_if}
 pub use Rattle.iot_node.specs.Disks.{KeepsDisk}
 pub use Rattle.iot_node.specs.Lines.{name_of}
 pub use Rattle.iot_node.specs.Steps.{StepsTo}
@@ -73,15 +79,16 @@ pub use Rattle.iot_server_node.specs.Servers.{disk_of, is_up, stamps_of}
 pub use Rattle.iot_server_node.specs.declared.message.Message.{Message}
 pub use Rattle.iot_server_node.specs.declared.server.Served.{Served}
 pub use Rattle.iot_server_node.specs.declared.server.ServerNode.{ServerNode}
-pub use Rattle.iot_laptop.specs.Alone.{NotesAlone, StartsAlone, set_class}
-pub use Rattle.iot_laptop.specs.Calls.{AsksAll, EndsAlone, HandsIn, IsDoneIn, IsGone, IsHeadPlan, IsNext, NextIs, Plans}
+pub use Rattle.iot_laptop.specs.Alone.{CertifiesAlone, ComparesAlone, NotesAlone, StartsAlone, YieldsAlone, YieldsAndNotes, certify_alone}
+pub use Rattle.iot_laptop.specs.Alone.{change_by, notes_found, set_class, yielding, yields_by}
+pub use Rattle.iot_laptop.specs.Calls.{AsksAll, EndsAlone, HandsIn, IsDoneIn, IsEndOf, IsGoneIfAny, IsHeadPlan, IsNext, NextIs, Plans}
 pub use Rattle.iot_standing.specs.States.{IsOver, IsUnended}
-pub use Rattle.iot_laptop.specs.Calls.{TakesStep, acts_in, decision, decision_on, done, head_name, head_reads}
+pub use Rattle.iot_laptop.specs.Calls.{TakesStep, acts_in, compared, compared_if, decision, decision_on, done, head_name, head_reads}
 pub use Rattle.iot_standing.specs.States.{head_option, head_plan}
-pub use Rattle.iot_laptop.specs.Calls.{TakesStamps, UnlessNoMemory, label_in, undecided_word}
+pub use Rattle.iot_laptop.specs.Calls.{TakesStamps, UnlessNoMemory, label_in, meant_in, undecided_word}
 pub use Rattle.iot_standing.specs.Kept.{ItemStands, ItemsStand, ResolutionStands, StageStands}
-pub use Rattle.iot_laptop.specs.Laptops.{ClientStands, IsFirst, LaptopStands, Relinked}
-pub use Rattle.iot_standing.specs.States.{IsFree, RunningStands, RunningStandsIfAny}
+pub use Rattle.iot_laptop.specs.Laptops.{ClientStands, IsFirst, LaptopStands, Reclassed, Relinked}
+pub use Rattle.iot_standing.specs.States.{RunStand, RunningStands}
 pub use Rattle.iot_laptop.specs.Laptops.{SamePlace, Stands, StandsAnyhow, after_passage, awake, disk_in, fallen, is_alive, live_in}
 pub use Rattle.iot_laptop.specs.Laptops.{KeepsTrails, stamps_in, state_in}
 pub use Rattle.iot_standing.specs.States.{waits_of}

@@ -1,7 +1,9 @@
 //! Looking in at a client's transactions.
 ghost use Rattle.std.specs.Prelude.{◌-◌, ◌≡◌, ◌≤◌, ◌++◌};
-ghost use Rattle.iot_exchange.specs.Words.{List, OnOk, Stands, LaptopStands, Declared, ReadsOf, running_of, Client, queue_kept, queue_text};
+ghost use Rattle.iot_exchange.specs.Words.{List, IfOk, OnOk, map, Stands, LaptopStands, Declared, ReadsOf, running_in, Client};
+ghost use Rattle.iot_exchange.specs.Words.{queue_kept, queue_text};
 ghost use Rattle.iot_exchange.specs.Words.{ServerNode};
+ghost use Rattle.iot_exchange.specs.Saying.{line_of};
 ghost use Rattle.iot_exchange.specs.Pairs.{two, IsReady, Does};
 
 use iot_client::Running;
@@ -11,26 +13,36 @@ use iot_laptop::Laptop;
 use iot_node::{Halt, say};
 use iot_queue::Item;
 use iot_text::{NoMemory, Text};
+use std::alloc::Global;
 
-/// Says the client's transactions: those that wait, and then the one that runs.
-pub(crate) fn say_queue<D: Disk>(laptop: &Laptop<D>, out: &mut Text) -> Result<(), NoMemory>
+/// Says the client's transactions: those that wait, and then those that run.
+pub(crate) fn say_queue<D: Disk>(
+    laptop: &Laptop<D>,
+    alloc: Global,
+    out: &mut Text,
+) -> Result<(), NoMemory>
     requires { Stands D.medium laptop.now }
     ensures { OnOk result ((scripts : List Declared) (m : Client) → LaptopStands D.medium scripts laptop.now m
-        → out.new ≡ out.old ++ queue_text m.name (queue_kept m.node.durable) (running_of m.first m.node.durable.running)) }
+        → out.new ≡ out.old ++ queue_text m.name (queue_kept m.node.durable) (running_in m)) }
 {
-    let waiting = laptop.client().queue();
-    match laptop.running() {
-        Some(running) => {
-            let line = RunLine {
-                tid: running.tid,
-                script: running.script,
-                first: running.first,
-                acts: running.acts.len() as u64,
-            };
-            queue(laptop.name(), waiting, &[line], out)
-        }
-        None => queue(laptop.name(), waiting, &[], out),
+    let lines = lines_of(alloc, laptop.running())?;
+    queue(laptop.name(), laptop.client().queue(), &lines, out)
+}
+
+/// A line for each transaction that runs.
+fn lines_of(alloc: Global, running: &[Running]) -> Result<Vec<RunLine>, NoMemory>
+    ensures { IfOk result (λ lines. lines.items ≡ map line_of running.now) }
+{
+    let mut lines = Vec::new(alloc);
+    'running: for it in running {
+        lines.push(RunLine {
+            tid: it.tid,
+            script: it.script,
+            first: it.first,
+            acts: it.acts.len() as u64,
+        })?;
     }
+    Ok(lines)
 }
 
 /// Says what the client's transaction at this place of those that wait, from 1, has read in its own run, if so many wait.

@@ -1,5 +1,6 @@
 //! What a client asks of the server: objects, over its link.
-ghost use Rattle.iot_exchange.specs.Words.{IsFirst, IsFree, Hoards, Takes, List, IfOk, IsRefresh, stamps_in, state_in, Declared};
+ghost use Rattle.std.specs.Prelude.{◌≡◌};
+ghost use Rattle.iot_exchange.specs.Words.{IsFirst, Hoards, Takes, List, [], IfOk, IsRefresh, stamps_in, state_in, Declared};
 ghost use Rattle.iot_exchange.specs.Words.{hold, fetch};
 ghost use Rattle.iot_exchange.specs.Words.{Refreshes, Holds, Want as Wanted};
 ghost use Rattle.iot_exchange.specs.Pairs.{two, IsReady, IsAsked, Does};
@@ -84,10 +85,11 @@ pub(crate) fn bring<D: Disk>(
     out: &mut Text,
 ) -> Result<bool, Halt>
     requires ready { IsReady D.medium (two laptop.old server.old) }
-    requires free { IsFree (state_in laptop.old) }
+    requires none { (state_in laptop.old).items ≡ [] }
     ensures does { (scripts : List Declared) → Does D.medium scripts (Holds hold want.now)
         (two laptop.old server.old) (two laptop.new server.new) out.old out.new result }
-    ensures free { IfOk result (λ _. IsFree (state_in laptop.new)) }
+    ensures none { IfOk result (λ _. (state_in laptop.new).items ≡ []) }
+    ensures running { IfOk result (λ _. (state_in laptop.new).running ≡ (state_in laptop.old).running) }
 {
     if !laptop.is_connected() {
         miss(laptop, server);
@@ -107,19 +109,21 @@ pub(crate) fn bring<D: Disk>(
     }
 }
 
-/// Holds what the running transaction misses, and tells whether it came. Then the transaction begins anew.
+/// Holds what the transaction with this number misses, and tells whether it came. Then the transaction begins anew.
 pub(crate) fn fetch<D: Disk>(
     laptop: &mut Laptop<D>,
     server: &mut ServerNode<D>,
     alloc: Global,
+    number: u64,
     request: Text,
     out: &mut Text,
 ) -> Result<bool, Halt>
     requires ready { IsReady D.medium (two laptop.old server.old) }
-    requires first { IsFirst laptop.old }
+    requires first { IsFirst number laptop.old }
+    requires none { (state_in laptop.old).items ≡ [] }
     requires asked { IsAsked laptop.old request }
     ensures { (want : Wanted) → IsRefresh laptop.old.place (stamps_in laptop.old) want request
-        → (scripts : List Declared) → Does D.medium scripts (Holds fetch want)
+        → (scripts : List Declared) → Does D.medium scripts (Holds (fetch number) want)
         (two laptop.old server.old) (two laptop.new server.new) out.old out.new result }
 {
     let message = Message {
@@ -128,7 +132,7 @@ pub(crate) fn fetch<D: Disk>(
     };
     match exchange(laptop, server, alloc, &message, out)? {
         Some(reply) => {
-            laptop.fetched(alloc, &reply, out)?;
+            laptop.fetched(alloc, number, &reply, out)?;
             Ok(true)
         }
         None => Ok(false),

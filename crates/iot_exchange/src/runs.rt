@@ -1,5 +1,5 @@
 //! A whole run of a script, as a transaction.
-ghost use Rattle.iot_exchange.specs.Words.{Runs, Declared, runs_script, OnConflict as Chosen};
+ghost use Rattle.iot_exchange.specs.Words.{Begins, Declared, Goes, OnConflict as Chosen, Runs, runs_through};
 ghost use Rattle.iot_exchange.specs.Scripts.{script_of, scripts_of};
 ghost use Rattle.iot_standing.specs.Scripts.{Means, IsMeant};
 ghost use Rattle.iot_exchange.specs.Pairs.{two, IsReadyWith, Does};
@@ -18,7 +18,8 @@ use std::alloc::Global;
 /// The most single steps that one run makes.
 const RUN_STEPS: u64 = 100_000;
 
-/// Over a link that is up, syncs what waits; then begins a transaction of the script, makes its single steps, and ends it.
+/// Over a link that is up, syncs what waits; then begins a transaction of the script, makes its single steps, and ends it; unless as many
+/// run as may.
 pub(crate) fn run<D: Disk>(
     laptop: &mut Laptop<D>,
     server: &mut ServerNode<D>,
@@ -34,7 +35,7 @@ pub(crate) fn run<D: Disk>(
         → Does D.medium (scripts_of scripts.now) (Runs (script_of script.now) on_conflict)
         (two laptop.old server.old) (two laptop.new server.new) out.old out.new result }
 {
-    if laptop.runs() {
+    if laptop.is_full() {
         say(b"busy", out)?;
         return Err(Halt::Over);
     }
@@ -45,7 +46,7 @@ pub(crate) fn run<D: Disk>(
     run_script(laptop, server, alloc, scripts, script, option, out)
 }
 
-/// Begins a transaction of the script, makes its single steps, and ends it.
+/// Begins a transaction of the script, makes its single steps, and ends it; unless as many run as may.
 fn run_script<D: Disk>(
     laptop: &mut Laptop<D>,
     server: &mut ServerNode<D>,
@@ -58,10 +59,10 @@ fn run_script<D: Disk>(
     requires ready { IsReadyWith D.medium (scripts_of scripts.now) (two laptop.old server.old) }
     requires meant { IsMeant (scripts_of scripts.now) (script_of script.now) option }
     ensures { (on_conflict : Chosen Declared) → Means (scripts_of scripts.now) (script_of script.now) option on_conflict
-        → Does D.medium (scripts_of scripts.now) (runs_script (script_of script.now) on_conflict)
+        → Does D.medium (scripts_of scripts.now) (Goes (Begins (script_of script.now) on_conflict) runs_through)
         (two laptop.old server.old) (two laptop.new server.new) out.old out.new result }
 {
-    begin(laptop, server, alloc, script, option, out)?;
-    steps(laptop, server, alloc, RUN_STEPS, false, out)?;
-    end(laptop, server, alloc, scripts, out)
+    let number = begin(laptop, server, alloc, script, option, out)?;
+    steps(laptop, server, alloc, number, RUN_STEPS, false, out)?;
+    end(laptop, server, alloc, scripts, Some(number), out)
 }

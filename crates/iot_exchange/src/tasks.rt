@@ -85,8 +85,10 @@ fn carry_out<D: Disk>(
             let chosen = by_name(scripts, *option);
             begin_aloud(laptop, server, alloc, script, chosen, out)
         }
-        Task::Step { count } => step_aloud(laptop, server, alloc, *count, out),
-        Task::End => end(laptop, server, alloc, scripts, out),
+        Task::Step { count, transaction } => {
+            step_aloud(laptop, server, alloc, *count, *transaction, out)
+        }
+        Task::End { transaction } => end(laptop, server, alloc, scripts, *transaction, out),
         Task::Sync => {
             let _synced = sync(laptop, server, alloc, scripts, out)?;
             Ok(())
@@ -95,7 +97,7 @@ fn carry_out<D: Disk>(
         Task::Repair { script } => repair(laptop, alloc, &scripts[*script as usize].name, out),
         Task::Discard => discard(laptop, alloc, out),
         Task::Queue => {
-            say_queue(laptop, out)?;
+            say_queue(laptop, alloc, out)?;
             Ok(())
         }
         Task::Reads { item } => say_reads(laptop, *item, out),

@@ -1,7 +1,7 @@
 //! The lines of a client's transactions.
-ghost use Rattle.std.specs.Prelude.{◌≡◌, ◌++◌};
+ghost use Rattle.std.specs.Prelude.{◌≡◌, ◌++◌, ◌∷◌, codes, decimal};
 ghost use Rattle.iot_exchange.specs.Words.{pending_line, OnOk, name_of, verdict_of, hoard_line, refresh_line, begin_line};
-ghost use Rattle.iot_exchange.specs.Words.{fetch_line, step_line, line, resolve_line, repair_line};
+ghost use Rattle.iot_exchange.specs.Words.{fetch_line, step_line, line, again_line, question_text, resolve_line, repair_line};
 ghost use Rattle.iot_exchange.specs.Saying.{place_said, resolver_said, told_text};
 
 use iot_inspect::put_question;
@@ -9,7 +9,7 @@ use iot_laptop::{Told, Verdict};
 use iot_node::{Printed, Transaction};
 use iot_resolve::Plan;
 use iot_text::{Name, NoMemory, Path, Text};
-use iot_tree::{ACT_LIMIT, OnConflict};
+use iot_tree::{ACT_LIMIT, OnConflict, Question};
 
 /// `hoard C P`
 pub(crate) fn say_hoard(name: &Name, path: &Path, out: &mut Text) -> Result<(), NoMemory>
@@ -109,13 +109,7 @@ pub(crate) fn say_told(
             out.push(b'\n')
         }
         Verdict::Conflict { read, question } => {
-            out.append(b"conflict ")?;
-            transaction.write_to(out)?;
-            out.append(b" read ")?;
-            out.append_number(*read)?;
-            out.push(b' ')?;
-            put_question(question, out)?;
-            out.push(b'\n')?;
+            say_read(b"conflict ", transaction, *read, question, out)?;
             match told.option {
                 OnConflict::Reexec | OnConflict::Resolver(_) => Ok(()),
                 OnConflict::Abort => say_of(b"abort ", transaction, out),
@@ -123,6 +117,38 @@ pub(crate) fn say_told(
             }
         }
     }
+}
+
+/// `again TID read I QUESTION`
+pub(crate) fn say_again(
+    transaction: &Transaction,
+    read: u64,
+    question: &Question,
+    out: &mut Text,
+) -> Result<(), NoMemory>
+    ensures { OnOk result (out.new ≡ out.old ++ again_line (name_of transaction.now) read question.now) }
+{
+    say_read(b"again ", transaction, read, question, out)
+}
+
+/// This word of a transaction, and which read of it has another answer now.
+fn say_read(
+    word: &[u8],
+    transaction: &Transaction,
+    read: u64,
+    question: &Question,
+    out: &mut Text,
+) -> Result<(), NoMemory>
+    ensures { OnOk result (out.new ≡ out.old ++ line (word.now ++ name_of transaction.now ++ codes " read " ++ decimal read
+        ++ 32 ∷ question_text question.now)) }
+{
+    out.append(word)?;
+    transaction.write_to(out)?;
+    out.append(b" read ")?;
+    out.append_number(read)?;
+    out.push(b' ')?;
+    put_question(question, out)?;
+    out.push(b'\n')
 }
 
 /// `resolve TID S`, or `resolve TID reexec`

@@ -1,21 +1,22 @@
 //! What a client does with its transactions: they begin, are stepped and end.
 ghost use Rattle.iot_laptop.specs.Calls.{Begins as Starts};
-ghost use Rattle.std.specs.Prelude.{◌≡◌};
-ghost use Rattle.iot_exchange.specs.Words.{KeepsTrails, UnlessNoMemory};
-ghost use Rattle.iot_exchange.specs.Words.{Begins, BeginsAloud, StepsAloud, Ends, List, None, [], true, Repeats, Declared};
+ghost use Rattle.std.specs.Prelude.{◌<◌, length};
+ghost use Rattle.iot_exchange.specs.Words.{KeepsTrails, UnlessNoMemory, done, most_running};
+ghost use Rattle.iot_exchange.specs.Words.{Begins, BeginsAloud, StepsAloud, Ends, List, Repeats, Declared};
 ghost use Rattle.iot_exchange.specs.Words.{OnConflict as Chosen, Steps, Stands, SamePlace, state_in, disk_in, KeepsDisk};
 ghost use Rattle.iot_exchange.specs.Scripts.{script_of, scripts_of};
 ghost use Rattle.iot_standing.specs.Scripts.{Means};
 ghost use Rattle.iot_exchange.specs.Pairs.{two, IsReady, IsReadyWith, IsReadyFor, Does};
+ghost use Rattle.iot_exchange.specs.Ending.{EndsAloud, ended_as};
 
 use crate::declared::DeclaredScript;
 use crate::objects::{bring, fetch};
 use crate::queues::sync;
 use crate::synced::Synced;
-use crate::texts::{say_begin, say_fetch, say_of, say_pending, say_step};
+use crate::texts::{say_again, say_begin, say_fetch, say_of, say_pending, say_step};
 use iot_client::Step;
 use iot_disk::Disk;
-use iot_laptop::Laptop;
+use iot_laptop::{Certified, Gone, Laptop};
 use iot_node::{Halt, say};
 use iot_server_node::ServerNode;
 use iot_text::{NoMemory, Text};
@@ -24,7 +25,7 @@ use std::alloc::Global;
 
 // ---- begin
 
-/// Begins the client's next transaction, unless one runs, and says so.
+/// Begins the client's next transaction, unless as many run as may, and says so.
 pub(crate) fn begin_aloud<D: Disk>(
     laptop: &mut Laptop<D>,
     server: &mut ServerNode<D>,
@@ -38,10 +39,10 @@ pub(crate) fn begin_aloud<D: Disk>(
         → Does D.medium scripts (BeginsAloud (script_of script.now) on_conflict)
         (two laptop.old server.old) (two laptop.new server.new) out.old out.new result }
 {
-    begin(laptop, server, alloc, script, option, out)?;
-    match laptop.running() {
+    let number = begin(laptop, server, alloc, script, option, out)?;
+    match laptop.run(number) {
         Some(running) => {
-            let transaction = laptop.transaction(running.tid);
+            let transaction = laptop.transaction(number);
             say_begin(&transaction, &running.script, running.first, out)?;
             Ok(())
         }
@@ -49,7 +50,7 @@ pub(crate) fn begin_aloud<D: Disk>(
     }
 }
 
-/// Begins the client's next transaction, unless one runs. It is first class if a refresh comes.
+/// Begins the client's next transaction, unless as many run as may, and gives its number. It is first class if a refresh comes.
 pub(crate) fn begin<D: Disk>(
     laptop: &mut Laptop<D>,
     server: &mut ServerNode<D>,
@@ -57,13 +58,13 @@ pub(crate) fn begin<D: Disk>(
     script: &DeclaredScript,
     option: OnConflict,
     out: &mut Text,
-) -> Result<(), Halt>
+) -> Result<u64, Halt>
     requires { IsReady D.medium (two laptop.old server.old) }
     ensures { (scripts : List Declared) (on_conflict : Chosen Declared) → Means scripts (script_of script.now) option on_conflict
         → Does D.medium scripts (Begins (script_of script.now) on_conflict)
         (two laptop.old server.old) (two laptop.new server.new) out.old out.new result }
 {
-    if laptop.runs() {
+    if laptop.is_full() {
         say(b"busy", out)?;
         return Err(Halt::Over);
     }
@@ -74,7 +75,7 @@ pub(crate) fn begin<D: Disk>(
     start(laptop, alloc, script, option, first, out)
 }
 
-/// Begins the client's next transaction, first class or not. None runs, and none waits if it is first class.
+/// Begins the client's next transaction, first class or not, and gives its number. Fewer run than may.
 fn start<D: Disk>(
     laptop: &mut Laptop<D>,
     alloc: Global,
@@ -82,90 +83,92 @@ fn start<D: Disk>(
     option: OnConflict,
     first: bool,
     out: &mut Text,
-) -> Result<(), Halt>
+) -> Result<u64, Halt>
     requires stands { Stands D.medium laptop.old }
-    requires idle { (state_in laptop.old).running ≡ None }
-    requires alone { first ≡ true → (state_in laptop.old).items ≡ [] }
+    requires room { length (state_in laptop.old).running < most_running }
     ensures does { Starts D.medium (script_of script.now) option first laptop.old laptop.new out.old out.new result }
-    ensures trails { UnlessNoMemory result (KeepsTrails laptop.old laptop.new) }
+    ensures trails { UnlessNoMemory (done result) (KeepsTrails laptop.old laptop.new) }
     ensures place { SamePlace laptop.old laptop.new }
     ensures disk { KeepsDisk D.medium (disk_in laptop.old) (disk_in laptop.new) }
 {
     let code = script.script.shared()?;
-    laptop.begin(alloc, &script.name, code, option, first, out)?;
-    Ok(())
+    laptop.begin(alloc, &script.name, code, option, first, out)
 }
 
 // ---- steps
 
-/// Makes at most so many single steps of the transaction that runs, and says how far it is.
+/// Makes at most so many single steps of the running transaction that is meant, and says how far it is.
 pub(crate) fn step_aloud<D: Disk>(
     laptop: &mut Laptop<D>,
     server: &mut ServerNode<D>,
     alloc: Global,
     most: u64,
+    which: Option<u64>,
     out: &mut Text,
 ) -> Result<(), Halt>
     requires { IsReady D.medium (two laptop.old server.old) }
-    ensures { (scripts : List Declared) → Does D.medium scripts (StepsAloud most)
+    ensures { (scripts : List Declared) → Does D.medium scripts (StepsAloud most which)
         (two laptop.old server.old) (two laptop.new server.new) out.old out.new result }
 {
-    if !laptop.runs() {
+    let Some(number) = laptop.meant(which) else {
         say(b"idle", out)?;
         return Err(Halt::Over);
-    }
-    steps(laptop, server, alloc, most, true, out)?;
-    match laptop.running() {
+    };
+    steps(laptop, server, alloc, number, most, true, out)?;
+    match laptop.run(number) {
         Some(running) => {
-            let transaction = laptop.transaction(running.tid);
+            let transaction = laptop.transaction(number);
             let acts = running.acts.len() as u64;
-            say_step(&transaction, acts, laptop.at_end(), out)?;
+            say_step(&transaction, acts, laptop.at_end(number), out)?;
             Ok(())
         }
         None => Ok(()),
     }
 }
 
-/// Makes at most so many single steps. What was fetched is said if they are loud.
+/// Makes at most so many single steps of the transaction with this number. What was fetched is said if they are loud.
 pub(crate) fn steps<D: Disk>(
     laptop: &mut Laptop<D>,
     server: &mut ServerNode<D>,
     alloc: Global,
+    number: u64,
     most: u64,
     loud: bool,
     out: &mut Text,
 ) -> Result<(), Halt>
     requires { IsReady D.medium (two laptop.old server.old) }
-    ensures { (scripts : List Declared) → Does D.medium scripts (Repeats most (Steps loud))
+    ensures { (scripts : List Declared) → Does D.medium scripts (Repeats most (Steps number loud))
         (two laptop.old server.old) (two laptop.new server.new) out.old out.new result }
 {
     'steps: for _ in 0..most {
-        if !step(laptop, server, alloc, loud, out)? {
+        if !step(laptop, server, alloc, number, loud, out)? {
             return Ok(());
         }
     }
     Ok(())
 }
 
-/// Makes a single step, and tells whether more may follow. A run, of whose steps nothing is said, goes on after a fetch that failed.
+/// Makes a single step of the transaction with this number, and tells whether more may follow. A run, of whose steps nothing is said, goes
+/// on after a fetch that failed.
 fn step<D: Disk>(
     laptop: &mut Laptop<D>,
     server: &mut ServerNode<D>,
     alloc: Global,
+    number: u64,
     loud: bool,
     out: &mut Text,
 ) -> Result<bool, Halt>
     requires { IsReady D.medium (two laptop.old server.old) }
-    ensures { (scripts : List Declared) → Does D.medium scripts (Steps loud)
+    ensures { (scripts : List Declared) → Does D.medium scripts (Steps number loud)
         (two laptop.old server.old) (two laptop.new server.new) out.old out.new result }
 {
-    if !laptop.runs() {
+    if laptop.run(number).is_none() {
         return Ok(false);
     }
-    match laptop.step(alloc, out)? {
+    match laptop.step(alloc, number, out)? {
         Step::Acted { .. } => Ok(true),
         Step::Fetch { request, path } => {
-            let came = fetch(laptop, server, alloc, request, out)?;
+            let came = fetch(laptop, server, alloc, number, request, out)?;
             if !loud {
                 return Ok(true);
             }
@@ -179,27 +182,50 @@ fn step<D: Disk>(
 
 // ---- end
 
-/// Lets the transaction that runs wait, if its script has ended or may do no more acts. One of first class is synced at once.
+/// Ends the running transaction that is meant, if its script has ended or may do no more acts: it waits, or starts again on the view, which
+/// is said. One of first class that waits is synced at once.
 pub(crate) fn end<D: Disk>(
     laptop: &mut Laptop<D>,
     server: &mut ServerNode<D>,
     alloc: Global,
     scripts: &[DeclaredScript],
+    which: Option<u64>,
     out: &mut Text,
 ) -> Result<(), Halt>
     requires { IsReadyWith D.medium (scripts_of scripts.now) (two laptop.old server.old) }
-    ensures { Does D.medium (scripts_of scripts.now) Ends
+    ensures { Does D.medium (scripts_of scripts.now) (Ends which)
         (two laptop.old server.old) (two laptop.new server.new) out.old out.new result }
 {
-    if !laptop.runs() {
+    let Some(number) = laptop.meant(which) else {
         say(b"idle", out)?;
         return Err(Halt::Over);
-    }
-    if !laptop.may_end() {
+    };
+    if !laptop.may_end(number) {
         say(b"not at end", out)?;
         return Err(Halt::Over);
     }
-    let gone = laptop.end(alloc, out)?;
+    match laptop.end(alloc, number, out)? {
+        Certified::Joined(gone) => join(laptop, server, alloc, scripts, &gone, out),
+        Certified::Again { read, question } => {
+            say_again(&laptop.transaction(number), read, &question, out)?;
+            Ok(())
+        }
+    }
+}
+
+/// Says that a transaction has ended, and waits. One of first class is synced at once.
+fn join<D: Disk>(
+    laptop: &mut Laptop<D>,
+    server: &mut ServerNode<D>,
+    alloc: Global,
+    scripts: &[DeclaredScript],
+    gone: &Gone,
+    out: &mut Text,
+) -> Result<(), Halt>
+    requires { IsReadyWith D.medium (scripts_of scripts.now) (two laptop.old server.old) }
+    ensures { Does D.medium (scripts_of scripts.now) (EndsAloud (ended_as gone.now))
+        (two laptop.old server.old) (two laptop.new server.new) out.old out.new result }
+{
     say_of(b"end ", &gone.printed.transaction, out)?;
     if !gone.first {
         say_pending(&gone.printed, out)?;

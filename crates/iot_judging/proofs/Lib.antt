@@ -1,8 +1,8 @@
 pub mod JudgingLaws
 pub mod BudgetLaws
 pub mod SpelledTreesLaws
-pub mod ReadPlaceLaws
 pub mod NextLaws
+pub mod CertifyLaws
 pub mod RunTreesLaws
 pub mod ToldLaws
 pub mod ListsLaws

@@ -1,5 +1,5 @@
--- Trees after runs: those of a client, and the one of a list of commits.
-use Rattle.std.proofs.Common.{◌≡◌, ℕ, List, true, false, [], ◌∷◌, Option, Some, None, refl, sym, ap, subst, ◌∙◌}
+-- The tree after the runs of a list of commits.
+use Rattle.std.proofs.Common.{◌≡◌, ℕ, List, true, false, [], ◌∷◌, Option, Some, None, refl, sym, subst, ◌∙◌}
 use Rattle.std.proofs.lemmas.Option.{none-some}
 use Rattle.std.specs.FinMap.{empty, get, get-empty}
 use Rattle.std.specs.List.{AllByRecursion}
@@ -18,22 +18,15 @@ use Rattle.iot_tree.proofs.EachLaws.{EachNode, each_inserted, each_moded, each_r
 use Rattle.iot_tree.proofs.RowLaws.{root_rows, root_map}
 use Rattle.iot_stamp.proofs.PrunedLaws.{whole_known}
 use Rattle.iot_lang.specs.Code.{Code}
-use Rattle.iot_lang.specs.Scripts.{IsScript}
 use Rattle.iot_acts.specs.Traces.{after_acts, after_update}
 use Rattle.iot_exec.specs.Commands.{Kept}
 use Rattle.iot_exec.specs.Runs.{run}
 use Rattle.iot_exec.specs.Serial.{Entry, run_entry, tree_from}
 use Rattle.iot_limits.specs.Spelled.{IsSpelledTree}
 use Rattle.iot_limits.proofs.SpelledLaws.{run_is_spelled, root_is_spelled}
-use Rattle.iot_machine.specs.Clients.{Item, local_run, after_items}
 use Rattle.iot_machine.specs.Machine.{Commit, entries_of, tree_after}
 use Rattle.iot_judging.specs.Entries.{IsSpelledEntry}
 use Rattle.iot_judging.proofs.JudgingLaws.{own_acts, run_tree}
-use Rattle.iot_judging.proofs.SpelledTreesLaws.{run_spelled}
-
--- ---- a client's
-
--- ---- the server's
 
 from_tree : (entries : List (Entry Way)) (t : Nodes) → IsTree t → IsTree (tree_from entries t)
 from_tree [] t tree = tree

@@ -3,13 +3,13 @@ use Rattle.std.proofs.Common.{◌≡◌, ℕ, Bool, true, false, cond, [], Optio
 use Rattle.std.proofs.lemmas.Option.{same_Some, none-some}
 use Rattle.std.specs.FinMap.{get, empty, get-empty}
 use Rattle.iot_text.specs.Paths.{path_cmp}
-use Rattle.iot_tree.specs.Tree.{Path, Nodes, IsTree, root_alone}
+use Rattle.iot_tree.specs.Tree.{Path, Nodes, root_alone}
 use Rattle.iot_tree.specs.Snapshots.{seen, is_reached, prune, has, known, widen}
 use Rattle.iot_tree.specs.declared.nodes.Node.{Node}
 use Rattle.iot_tree.specs.declared.nodes.Node.TheVariants.{Dir, File, FarDir, FarFile}
 use Rattle.iot_tree.specs.declared.want.Want.{Want}
 use Rattle.iot_tree.proofs.EachLaws.{each_inserted}
-use Rattle.iot_tree.proofs.PruneLaws.{get_pruned, pruned_tree}
+use Rattle.iot_tree.proofs.PruneLaws.{get_pruned}
 use Rattle.iot_lang.specs.Code.{Code}
 use Rattle.iot_lang.specs.Scripts.{IsScript}
 use Rattle.iot_exec.specs.Runs.{run}

@@ -1,20 +1,19 @@
 -- What the server's replies bring and say, and what a call of a laptop that appends a record makes of the client of the machine: its
 -- change, or a stop in it.
 use Rattle.std.proofs.lemmas.Result.{IfOk-weaker, IfOk-at_ok}
-use Rattle.std.proofs.Common.{◌≡◌, ◌+◌, ℕ, Bool, true, false, List, [], ◌∷◌, length, Option, Some, None, Result, Ok, Err, inl, inr}
-use Rattle.std.proofs.Common.{refl, sym, ap, subst, ◌∙◌, rules, zero, suc, ◌-◌, ◌<◌, slice_get, arith}
+use Rattle.std.proofs.Common.{◌≡◌, ℕ, true, false, List, [], ◌∷◌, Option, Some, None, Result, Ok, Err, inl, inr}
+use Rattle.std.proofs.Common.{refl, sym, ap, subst, ◌∙◌}
 use Rattle.std.specs.Prelude.{IfOk, OnOk, IsErrOf, IfErr}
-use Rattle.std.proofs.lemmas.List.{append-nil}
-use Rattle.std.proofs.lemmas.Option.{slice_get_within, same_Some}
+use Rattle.std.proofs.lemmas.Option.{same_Some}
 use Rattle.iot_access.specs.Access.{access_of}
-use Rattle.iot_laptop.specs.Below.{Try, Nodes, IsTree, IsSpelledTree, IsScript, Resolved, State, acts_of, CanFollow, after, Notes}
-use Rattle.iot_laptop.specs.Below.{IsRefresh, Live, IsTied, state_of, live_of, disk_of, records_of, IsOwnRunIfAny, place_of, Client}
+use Rattle.iot_laptop.specs.Below.{Nodes, IsTree, IsSpelledTree, IsScript, Resolved, State, CanFollow, after, Notes}
+use Rattle.iot_laptop.specs.Below.{Live, IsTied, state_of, live_of, disk_of, records_of, Client}
 use Rattle.iot_laptop.specs.Below.{StandWith, next}
-use Rattle.iot_laptop.specs.Below.{ClientFault, Stopped, Medium, Declared, ClientState, leave, repair, begin, Node, Appends, Writes}
+use Rattle.iot_laptop.specs.Below.{ClientFault, Stopped, Medium, Declared, ClientState, leave, repair, Node, Appends, Writes}
 use Rattle.iot_laptop.specs.Below.{KeepsDisk, Appended, UpStands, StepsFrom, Answered, is_on, StepsTo, Halt, NoMemory, Over, Post, Up}
-use Rattle.iot_laptop.specs.Below.{Between, no_text, name_of, SpellsVerdict, Laptop, Seated, Read, Resolution, Code, Ran, IsHeadsRun}
-use Rattle.iot_laptop.specs.Below.{may_end, verdict_change, CanAct, next_acts, StepIs, Plan, act_once, reach, resolution_of}
-use Rattle.iot_laptop.specs.Below.{transaction_name, acts_output, Gone, Act, Step, Item, Spells, reads_of, head_of, Stamps, nodes_of}
+use Rattle.iot_laptop.specs.Below.{Between, no_text, SpellsVerdict, Laptop, Seated, Read, Resolution, Code, IsHeadsRun}
+use Rattle.iot_laptop.specs.Below.{verdict_change, Plan, reach, resolution_of}
+use Rattle.iot_laptop.specs.Below.{Item, reads_of, head_of, Stamps, nodes_of}
 use Rattle.iot_laptop.specs.Below.{stamps_of, brought, nothing_held}
 use Rattle.iot_client.specs.Messages.{ReadsObjects, ReadsNoted, noted_in, objects_in, Makes, no_tree, no_changes}
 use Rattle.iot_views.specs.Rules.{IsTreeOfRows}
@@ -24,46 +23,36 @@ use Rattle.iot_kept.proofs.BringingLaws.{brought_spelled}
 use Rattle.iot_kept.proofs.SyncedLaws.{synced_spelled}
 use Rattle.iot_tree.specs.declared.changes.Changes.{Changes as RowChanges}
 use Rattle.iot_laptop.specs.Laptops.{stamps_by, stamps_in, NodeStands, LaptopStands, ClientStands, live_by, records_in, records_by, disk_by}
-use Rattle.iot_laptop.specs.Laptops.{state_in, live_in, IsFirstOf}
-use Rattle.iot_standing.specs.States.{StateStands, waits_of, head_option, told_change}
+use Rattle.iot_standing.specs.States.{StateStands, head_option, told_change}
 use Rattle.iot_client.proofs.TrailsLaws.{same_changes}
 use Rattle.iot_machine.proofs.PossiblyLaws.{possibly_sure, appends_possibly}
 use Rattle.iot_node.proofs.PostsLaws.{same_counts}
 use Rattle.iot_node.proofs.StepsToLaws.{bind, answers}
-use Rattle.iot_tree.specs.declared.labels.OnConflict.{OnConflict as OnConflictNamed}
 use Rattle.iot_changes.specs.declared.changes.Change.{Change}
-use Rattle.iot_changes.specs.declared.changes.Change.TheVariants.{Begun, Repaired, Left, Ended, Acted}
-use Rattle.iot_client.specs.Calls.{CutsOff, Brings, CutsOffByTree, CutsOffByVerdict, CutsOffByRun, Resolves, Ends, EndsIfAny}
-use Rattle.iot_client.specs.Calls.{CutsOffNextIfAny, CutsOffNext, StepIsIfAny, CutsOffRerun, Reruns, RefusesReply}
+use Rattle.iot_changes.specs.declared.changes.Change.TheVariants.{Repaired, Left}
+use Rattle.iot_client.specs.Calls.{CutsOff, Brings, CutsOffByTree, CutsOffByVerdict, CutsOffByRun, Resolves}
+use Rattle.iot_client.specs.Calls.{CutsOffRerun, Reruns, RefusesReply}
 use Rattle.iot_client.specs.Faults.{CountsFault, MayFail}
 use Rattle.iot_machine.specs.Nodes.{changed}
 use Rattle.iot_node.specs.Steps.{EndsBy}
 use Rattle.iot_limits.proofs.TreesLaws.{tree_spelled}
 use Rattle.iot_client.specs.declared.noted.Noted.{Noted as NotedIn}
-use Rattle.iot_tree.specs.declared.questions.Answer.{Answer}
-use Rattle.iot_wire.specs.Messages.{IsOneMessage}
-use Rattle.iot_wire.specs.Rules.{IsReply}
-use Rattle.iot_wire.specs.Spelling.{reply_spelling}
 use Rattle.iot_wire.specs.declared.replies.Reply.TheVariants.{Committed, Already, Conflict}
 use Rattle.iot_disk.specs.declared.faults.JournalFault.TheVariants as append
 use Rattle.iot_machine.specs.Machine as machine
-use Rattle.iot_client.specs.declared.ended.Ended as client
-use Rattle.iot_client.specs.declared.steps.Step.TheVariants as steps
 use Rattle.iot_machine.specs.Clients as clients
 use Rattle.iot_machine.specs.Serving as serving
-use Rattle.iot_tree.specs.declared.want.Want.TheVariants as wants
 use Rattle.iot_client.specs.declared.fault.ClientFault.TheVariants as faults
 use Rattle.iot_laptop.specs.Alone.{NotesAlone}
-use Rattle.iot_laptop.specs.Calls.{appended, done, EndsAlone, GoesOn, Changes, Begins, Repairs, Plans, TakesStep, NextIs, IsDoneIn, IsGone}
+use Rattle.iot_laptop.specs.Calls.{appended, done, EndsAlone, GoesOn, Changes, Repairs, Plans}
 use Rattle.iot_laptop.specs.Calls.{TakesVerdict, head_reads, acts_in}
 use Rattle.iot_standing.specs.Kept.{StateKept}
-use Rattle.iot_laptop.specs.Messages.{SpellsTree, IsVerdict}
+use Rattle.iot_laptop.specs.Messages.{SpellsTree}
 use Rattle.iot_standing.specs.Scripts.{AreNamed}
 use Rattle.iot_laptop.specs.Seats.{seating}
-use Rattle.iot_standing.proofs.KeptLaws.{KeptLive, live_then, begun_live, left_live, repaired_live, ended_live, noted_as, told_live}
-use Rattle.iot_standing.proofs.KeptLaws.{joined_waits, acted_live, resolved_live}
-use Rattle.iot_laptop.proofs.NodesLaws.{Posted, not_both, up_stands, awake_at, fallen_at, at_node, own_in, at_post}
-use Rattle.iot_standing.proofs.StatesLaws.{Running, running_is, so_far_is, may_end_is, next_is, acts_is}
+use Rattle.iot_standing.proofs.KeptLaws.{KeptLive, left_live, noted_as, repaired_live, resolved_live, told_live}
+use Rattle.iot_standing.proofs.RunsLaws.{live_with, lives_then}
+use Rattle.iot_laptop.proofs.NodesLaws.{Posted, not_both, up_stands, awake_at, fallen_at, at_node}
 use Rattle.iot_laptop.specs.Calls as calls
 
 -- ---- trees
@@ -93,31 +82,6 @@ none_bad old new Passes {held} {reply} {t} only spells passes None none answer r
     by (Err faults.Stopped) refuses = tt
     by (Err (faults.BadReply at)) refuses = absurd (not_refused at refuses.0)
     by (Err other) refuses = absurd refuses
-
--- ---- verdicts
-
--- a read of a place among them is there
-pub is_there : (reads : List Read) (at : ℕ) → at < length reads → slice_get reads at ≡ None → ⊥
-is_there [] at within none = omega arith
-is_there (read ∷ reads) zero within none = absurd cc
-is_there (read ∷ reads) (suc at) within none = is_there reads at (omega arith) none
-
--- the bytes are the spelling of one reply at most: that there is a conflict at this place
-module _ (reads : List Read) (bytes : List ℕ) (one : IsOneMessage IsReply reply_spelling bytes) (place : ℕ) (answer : Answer)
-    (is : Spells bytes (Conflict place answer)) where
-  within_by : (told : serving.Verdict) → SpellsVerdict reads bytes told → place - 1 < length reads
-  within_by (serving.Settled number) (inl settled) =
-      let same : Conflict place answer ≡ Committed number = one _ _ is settled in absurd cc
-  within_by (serving.Settled number) (inr settled) =
-      let same : Conflict place answer ≡ Already number = one _ _ is settled in absurd cc
-  within_by (serving.Conflict other question) says =
-      let conflict = says.1 in
-      let same : Conflict place answer ≡ Conflict other conflict.answer = one _ _ is conflict.spelled in
-      let at : slice_get reads (place - 1) ≡ Some says.0 = cc (conflict.at) in
-      slice_get_within reads (place - 1) says.0 at
-
-  pub place_within : IsVerdict reads bytes → place - 1 < length reads
-  place_within verdict = within_by verdict.told verdict.is
 
 -- ---- the first that waits
 
@@ -168,36 +132,40 @@ pub record Before {D : Type 0} (medium : Medium D) (laptop : Laptop D) (scripts 
 
 -- it was to append this change, and what is known besides if it did
 pub record Noted {D T : Type 0} (medium : Medium D) (was now : Client D) (answer : Result T ClientFault) (change : Change)
-    (live : Option Live) : Type 0 where
+    (known : List Live) : Type 0 where
   pub notes : OnOk answer (Notes change was now)
-  pub lives : OnOk answer (live_of now ≡ live)
+  pub lives : OnOk answer (live_of now ≡ known)
   pub stops : IsErrOf answer Stopped → CutsOff change (state_of was) (records_of was) (medium.may_leave (disk_of now))
 
--- what is known of a change by it: if it was done, and if it was stopped
+-- what is known of a change by it, from what was kept to what is kept next: if it was done, and if it was stopped
 pub record Fits {D T : Type 0} (medium : Medium D) (was now : Client D) (answer : Result T ClientFault) (scripts : List Declared)
-    (next : ClientState) (first : Bool) : Type 0 where
-  pub live : Option Live
-  pub ok : OnOk answer
-      ((change : Change) × Notes change was now × KeptLive scripts (after (state_of was) change) (live_of now) first next)
+    (next : ClientState) : Type 0 where
+  pub ok : OnOk answer ((change : Change) × Notes change was now × StateKept (after (state_of was) change) next)
   pub cut : IsErrOf answer Stopped → (change : Change)
       × CutsOff change (state_of was) (records_of was) (medium.may_leave (disk_of now))
-      × KeptLive scripts (after (state_of was) change) live first next
+      × StateKept (after (state_of was) change) next × AreNamed scripts next
+
+-- and what is known besides, with these of first class
+pub record FitsLive {D T : Type 0} (medium : Medium D) (was now : Client D) (answer : Result T ClientFault) (scripts : List Declared)
+    (next : ClientState) (first : List ℕ) : Type 0 where
+  pub fits : Fits medium was now answer scripts next
+  pub live : OnOk answer ((live_of now ≡ live_with first next.running) × AreNamed scripts next)
 
 -- the call as one of the keeper of a node
 appended_by : {D T : Type 0} {medium : Medium D} {laptop : Laptop D} {was now : Client D} {count : ℕ} {scripts : List Declared}
-    {m : ClientState} (place : ℕ) (answer : Result T ClientFault) (change : ClientState → ClientState) (first : Bool)
-    → Fits medium was now answer scripts (change m) first → Behaves medium laptop was now answer count
+    {m : ClientState} (place : ℕ) (answer : Result T ClientFault) (change : ClientState → ClientState)
+    → Fits medium was now answer scripts (change m) → Behaves medium laptop was now answer count
     → Appended (seating medium place) medium change m (record { client = was }) (record { client = now }) (appended answer)
-appended_by {medium = medium} {was = was} {now = now} {m = m} place (Ok t) change first fits behaves = (
+appended_by {medium = medium} {was = was} {now = now} {m = m} place (Ok t) change fits behaves = (
   (λ n seat. record {
     place_is = fits.ok.1.place ∙ seat.place_is;
     tied = behaves.tied;
     counted = fits.ok.1.records ∙ ap next seat.counted;
-    kept = subst (λ (s : State). StateKept s (change m)) (sym fits.ok.1.state) fits.ok.2.kept;
+    kept = subst (λ (s : State). StateKept s (change m)) (sym fits.ok.1.state) fits.ok.2;
   }),
   same_counts medium (disk_of was) (disk_of now) behaves.counts behaves.arms,
 )
-appended_by {medium = medium} {was = was} {now = now} place (Err Stopped) change first fits behaves =
+appended_by {medium = medium} {was = was} {now = now} place (Err Stopped) change fits behaves =
     let cut = fits.cut refl in (
       -- each image is what the client keeps, without the record or with it
       (λ n seat. record {
@@ -210,13 +178,13 @@ appended_by {medium = medium} {was = was} {now = now} place (Err Stopped) change
           | inr more ↦ inr (record {
             state = after (state_of was) cut.0;
             stands = subst (λ (k : ℕ). StandWith image (next k) (after (state_of was) cut.0)) seat.counted more;
-            kept = cut.2.kept;
+            kept = cut.2;
           })
         ];
       }),
       record { faults = behaves.counts; arms = behaves.arms },
     )
-appended_by place (Err other) change first fits behaves = tt
+appended_by place (Err other) change fits behaves = tt
 
 -- ---- what is said of the first that waits
 
@@ -242,38 +210,39 @@ module _ {D T : Type 0} {medium : Medium D} {laptop : Laptop D} {was now : Clien
       → UpStands (seating medium laptop.place) medium no_text (record { client = was }) m.node
   was_up known = rw up at known.node
 
+  -- it answered this
+  pub answered_so : (t : T) → result ≡ Ok t → answer ≡ Ok t
+  answered_so t same = IfOk-at_ok _ same goes.answers
+
   -- ---- for each client of the machine of which this is known
 
   module _ (scripts : List Declared) (stands : Laptop D → machine.Client → Type 0) (change : ClientState → ClientState)
-      (class : Bool → Bool)
       (each : (m : machine.Client) → stands laptop m → Before medium laptop scripts m
-      × Fits medium was now answer scripts (change m.node.durable) (class m.first)) where
-    abbrev after_it : Laptop D → machine.Client → Type 0
-    after_it l m = LaptopStands medium scripts l (record m { first = class m.first })
-
+      × Fits medium was now answer scripts (change m.node.durable)) where
     answered : (m : machine.Client) → stands laptop m → (r : Result T Halt) → result ≡ r
         → Answered (StepsFrom (Posted medium laptop) (Appends laptop.name change) m.node new.post x y) (appended answer) r
     answered m here r same =
         let known = each m here in
         rw (sym same)
         (goes.step (record { client = was }) (record { client = now }) change m.node refl (was_up known.0)
-        (appended_by laptop.place answer change (class m.first) known.1 behaves)
+        (appended_by laptop.place answer change known.1 behaves)
         (behaves.counted ∙ ap records_by up))
 
-    -- it went on
-    pub goes_at : (t : T) → result ≡ Ok t → StepsTo stands after_it (Writes change) laptop new x y true
-    goes_at t same =
+    -- it went on, to where this stands
+    pub goes_at : {after_it : Laptop D → machine.Client → Type 0} (t : T) → result ≡ Ok t
+        → ((m : machine.Client) → stands laptop m → (post : Post (Seated D) D) → Posted medium laptop post (changed change m.node)
+        → live_by post ≡ live_of now
+        → after_it (record laptop { post = post }) (record m { node = changed change m.node }))
+        → StepsTo stands after_it (Writes change) laptop new x y true
+    goes_at {after_it} t same stand =
         subst (λ (l : Laptop D). StepsTo stands after_it (Writes change) laptop l x y true) (sym goes.rest)
         (at_node medium laptop new.post (λ name. Appends name change) (λ m. m.name) x y true
         (λ m here. ((each m here).0.name, (answered m here (Ok t) same).1))
         (λ m here n text step there.
-        let known = each m here in
-        let it = IfOk-at_ok _ (IfOk-at_ok _ same goes.answers) known.1.ok in
         let live : live_by new.post ≡ live_of now = ap (λ (l : Laptop D). live_by l.post) (IfOk-at_ok _ same goes.same) in
         let went : n ≡ changed change m.node = elim step [ inl it ↦ it.2 | inr stop ↦ absurd (not_both stop.1) ] in
         subst (λ (n : Node ClientState). after_it (record laptop { post = new.post }) (record m { node = n })) (sym went)
-        (awake_at medium scripts laptop m known.0.name known.0.link new.post (changed change m.node)
-        (subst (Posted medium laptop new.post) went there) known.0.alive (class m.first) (live ∙ it.2.runs) it.2.named)))
+        (stand m here new.post (subst (Posted medium laptop new.post) went there) live)))
 
     -- or it stopped in that
     pub halts_at : result ≡ Err Over → StepsTo stands (ClientStands medium scripts) (Writes change) laptop new x y false
@@ -288,8 +257,35 @@ module _ {D T : Type 0} {medium : Medium D} {laptop : Laptop D} {was now : Clien
           | inr stop ↦ ap (λ (n : Node ClientState). n.alive) stop.2.is
         ] in
         fallen_at medium scripts laptop m known.0.name known.0.link new.post n there down
-        (appends_possibly laptop.name change m.node n text false (λ _. (known.1.cut (goes.stopped same)).2.named)
+        (appends_possibly laptop.name change m.node n text false (λ _. (known.1.cut (goes.stopped same)).3)
         (possibly_sure m.node (was_up known.0).sure known.0.named) step)))
+
+  -- ---- the same with what is known besides
+
+  module _ (scripts : List Declared) (stands : Laptop D → machine.Client → Type 0) (change : ClientState → ClientState)
+      (class : List ℕ → List ℕ)
+      (each : (m : machine.Client) → stands laptop m → Before medium laptop scripts m
+      × FitsLive medium was now answer scripts (change m.node.durable) (class m.first)) where
+    abbrev Classed : Laptop D → machine.Client → Type 0
+    Classed l m = LaptopStands medium scripts l (record m { first = class m.first })
+
+    fits_each : (m : machine.Client) → stands laptop m → Before medium laptop scripts m
+        × Fits medium was now answer scripts (change m.node.durable)
+    fits_each m here = ((each m here).0, (each m here).1.fits)
+
+    pub notes_at : (t : T) → result ≡ Ok t → StepsTo stands Classed (NotesAlone change) laptop new x y (Some tt)
+    notes_at t same =
+        bind laptop new new x y y true (Some tt)
+        (goes_at scripts stands change fits_each {after_it = Classed} t same (λ m here post there live.
+        let known = each m here in
+        let it = IfOk-at_ok _ (answered_so t same) known.1.live in
+        awake_at medium scripts laptop m known.0.name known.0.link post (changed change m.node) there known.0.alive (class m.first)
+        (live ∙ it.0) it.1))
+        (answers new new y (Some tt) (λ m here. here))
+
+    pub notes_halt : result ≡ Err Over → StepsTo stands (ClientStands medium scripts) (NotesAlone change) laptop new x y None
+    notes_halt same =
+        bind laptop new new x y y false None (halts_at scripts stands change fits_each same) (answers new new y None (λ m here. here))
 
   -- ---- what was so before
 
@@ -297,75 +293,74 @@ module _ {D T : Type 0} {medium : Medium D} {laptop : Laptop D} {was now : Clien
     pub stands_was : StateStands s (live_of was) m.first m.node.durable
     stands_was = rw up at here.state
 
-    known_was : KeptLive scripts s (live_of was) m.first m.node.durable
+    pub known_was : KeptLive scripts s (live_of was) m.first m.node.durable
     known_was = record {
       kept = (up_stands medium scripts laptop m was up here).stands.kept;
-      runs = live_then s.running (live_of was) m.first m.node.durable.running stands_was.running;
+      runs = lives_then s.running (live_of was) m.first m.node.durable.running stands_was.running;
       named = here.named;
     }
 
+    pub before : Before medium laptop scripts m
+    before = record { name = here.name; link = here.link; alive = here.alive; node = here.node; named = here.named }
+
   -- ---- a change of the client of the machine
 
-  -- by a call that notes this change, or stops in that
-  ends_alone : (scripts : List Declared) (change : ClientState → ClientState) (class : Bool → Bool) {call : Try machine.Client (Unit {0})}
-      → ((m : machine.Client) → LaptopStands medium scripts laptop m → KeptLive scripts s (live_of was) m.first m.node.durable
-      → Fits medium was now answer scripts (change m.node.durable) (class m.first))
-      → (StepsTo (LaptopStands medium scripts) (λ l m. LaptopStands medium scripts l (record m { first = class m.first }))
-      (NotesAlone change) laptop new x y (Some tt)
-      → StepsTo (LaptopStands medium scripts) (LaptopStands medium scripts) call laptop new x y (Some tt))
-      → (StepsTo (LaptopStands medium scripts) (ClientStands medium scripts) (NotesAlone change) laptop new x y None
-      → StepsTo (LaptopStands medium scripts) (ClientStands medium scripts) call laptop new x y None)
-      → EndsAlone medium scripts call laptop new x y (done result)
-  ends_alone scripts change class {call} each ups downs = record { is = by result refl }
-    where
-      fits : (m : machine.Client) → LaptopStands medium scripts laptop m → Before medium laptop scripts m
-          × Fits medium was now answer scripts (change m.node.durable) (class m.first)
-      fits m here = (search rules, each m here (known_was scripts m here))
-
-      by : (r : Result T Halt) → result ≡ r
-          → EndsBy (LaptopStands medium scripts) (ClientStands medium scripts) call laptop new x y (done r)
-      by (Ok t) same =
-          ups (bind laptop new new x y y true (Some tt) (goes_at scripts (LaptopStands medium scripts) change class fits t same)
-          (answers new new y (Some tt) (λ m here. here)))
-      by (Err NoMemory) same = tt
-      by (Err Over) same =
-          downs (bind laptop new new x y y false None (halts_at scripts (LaptopStands medium scripts) change class fits same)
-          (answers new new y None (λ m here. here)))
-
   -- one change, done or cut off
-  pub fits_with : (scripts : List Declared) (next : ClientState) (first : Bool) (change : Change) (live : Option Live)
-      → Noted medium was now answer change live → (CanFollow s change → KeptLive scripts (after s change) live first next)
-      → Fits medium was now answer scripts next first
-  fits_with scripts next first change live noted known = record {
-    live = live;
-    ok = if_two answer noted.notes noted.lives (λ t note same. (change, note, rw same (known note.follows)));
-    cut = λ stopped. let cut = noted.stops stopped in (change, cut, known cut.follows);
+  pub fits_with : (scripts : List Declared) (next : ClientState) (first : List ℕ) (change : Change) (lives : List Live)
+      → Noted medium was now answer change lives → (CanFollow s change → KeptLive scripts (after s change) lives first next)
+      → FitsLive medium was now answer scripts next first
+  fits_with scripts next first change lives noted known = record {
+    fits = record {
+      ok = IfOk-weaker answer _ _ (λ t note. (change, note, (known note.follows).kept)) noted.notes;
+      cut = λ stopped.
+          let cut = noted.stops stopped in
+          let it = known cut.follows in
+          (change, cut, it.kept, it.named);
+    };
+    live = if_two answer noted.notes noted.lives (λ t note same. let it = known note.follows in (same ∙ it.runs, it.named));
   }
 
+  -- by a call that notes this change, or stops in that
+  ends_alone : (scripts : List Declared) (change : ClientState → ClientState)
+      → ((m : machine.Client) → LaptopStands medium scripts laptop m → KeptLive scripts s (live_of was) m.first m.node.durable
+      → FitsLive medium was now answer scripts (change m.node.durable) m.first)
+      → EndsAlone medium scripts (NotesAlone change) laptop new x y (done result)
+  ends_alone scripts change each = record { is = by result refl }
+    where
+      fits : (m : machine.Client) → LaptopStands medium scripts laptop m → Before medium laptop scripts m
+          × FitsLive medium was now answer scripts (change m.node.durable) m.first
+      fits m here = (before scripts m here, each m here (known_was scripts m here))
+
+      by : (r : Result T Halt) → result ≡ r
+          → EndsBy (LaptopStands medium scripts) (ClientStands medium scripts) (NotesAlone change) laptop new x y (done r)
+      by (Ok t) same = notes_at scripts (LaptopStands medium scripts) change (λ b. b) fits t same
+      by (Err NoMemory) same = tt
+      by (Err Over) same = notes_halt scripts (LaptopStands medium scripts) change (λ b. b) fits same
+
   -- the same of each client for which it stood
-  pub alone : (scripts : List Declared) (other : ClientState → ClientState) (change : Change) (live : Option Live)
-      → Noted medium was now answer change live
+  pub alone : (scripts : List Declared) (other : ClientState → ClientState) (change : Change) (lives : List Live)
+      → Noted medium was now answer change lives
       → ((m : machine.Client) → KeptLive scripts s (live_of was) m.first m.node.durable → CanFollow s change
-      → KeptLive scripts (after s change) live m.first (other m.node.durable))
+      → KeptLive scripts (after s change) lives m.first (other m.node.durable))
       → EndsAlone medium scripts (NotesAlone other) laptop new x y (done result)
-  alone scripts other change live noted known =
-      ends_alone scripts other (λ b. b)
-      (λ m here was. fits_with scripts (other m.node.durable) m.first change live noted (known m was)) (λ steps. steps) (λ steps. steps)
+  alone scripts other change lives noted known =
+      ends_alone scripts other
+      (λ m here was. fits_with scripts (other m.node.durable) m.first change lives noted (known m was))
 
   -- the first that waits leaves
   pub leaves : Noted medium was now answer Left (live_of was) → Changes medium leave laptop new x y (done result)
   leaves noted scripts = alone scripts leave Left (live_of was) noted (λ m here. left_live here)
 
   -- the change by the tree that the reply makes
-  pub brings : {purpose : Purpose} {other : Nodes → ClientState → ClientState} {live : Option Live} {reply : List ℕ}
-      → IsTied medium was → ReadsObjects reply → OnOk answer (Brings purpose reply was now) → OnOk answer (live_of now ≡ live)
+  pub brings : {purpose : Purpose} {other : Nodes → ClientState → ClientState} {reply : List ℕ}
+      → IsTied medium was → ReadsObjects reply → OnOk answer (Brings purpose reply was now) → OnOk answer (live_of now ≡ live_of was)
       → (IsErrOf answer Stopped
       → CutsOffByTree purpose reply (stamps_of was) s (records_of was) (medium.may_leave (disk_of now)))
-      → ((scripts : List Declared) (first : Bool) (m : ClientState) → KeptLive scripts s (live_of was) first m → (t : Nodes)
+      → ((scripts : List Declared) (first : List ℕ) (m : ClientState) → KeptLive scripts s (live_of was) first m → (t : Nodes)
       → CanFollow s (brought_for purpose t) → IsTree t → IsSpelledTree t
-      → KeptLive scripts (after s (brought_for purpose t)) live first (other t m))
+      → KeptLive scripts (after s (brought_for purpose t)) (live_of was) first (other t m))
       → (t : Nodes) → SpellsTree (stamps_in laptop) reply t → Changes medium (other t) laptop new x y (done result)
-  brings {purpose} {other} {live} {reply} tied only brought_by lives stops known t spells_it scripts =
+  brings {purpose} {other} {reply} tied only brought_by lives stops known t spells_it scripts =
       let spells : SpellsTree (stamps_of was) reply t =
       subst (λ (held : Stamps). SpellsTree held reply t) (ap stamps_by up) spells_it in
       let is : (read : RowChanges) → objects_in reply ≡ Ok read → bringing purpose (stamps_of was) read ≡ brought_for purpose t =
@@ -374,7 +369,7 @@ module _ {D T : Type 0} {medium : Medium D} {laptop : Laptop D} {was now : Clien
       subst IsTreeOfRows (sym spells.is)
       (brought_spelled (stamps_of was) spells.changes (synced_spelled medium was.kept tied.synced).held spells.spelled.value
       (subst IsTree spells.is spells.tree)) in
-      alone scripts (other t) (brought_for purpose t) live
+      alone scripts (other t) (brought_for purpose t) (live_of was)
       (record {
         notes = IfOk-weaker answer _ _ (λ u it.
             subst (λ (change : Change). Notes change was now) (is it.changes it.read) it.notes) brought_by;
@@ -382,27 +377,6 @@ module _ {D T : Type 0} {medium : Medium D} {laptop : Laptop D} {was now : Clien
         stops = λ stopped. let it = stops stopped in subst cuts (is it.changes it.read) it.cuts_off;
       })
       (λ m here follows. known scripts m.first m.node.durable here t follows spells.tree (tree_spelled t rows))
-
-  -- the next transaction begins
-  pub begins : (number : T → ℕ) (script : Declared) (option : OnConflictNamed) (first : Bool) → IsScript script.code
-      → IfOk answer (λ t. number t ≡ s.last + 1)
-      → IfOk answer (λ t. Notes (Begun (number t) script.name option) was now)
-      → OnOk answer (live_of now ≡ Some (record { first = first; code = script.code }))
-      → (IsErrOf answer Stopped → cuts (Begun (s.last + 1) script.name option))
-      → Begins medium script option first laptop new x y (done result)
-  begins number script option first script_is numbers notes lives stops scripts on_conflict named has same =
-      ends_alone scripts (begin script on_conflict) (λ _. first) (λ m here known.
-      fits_with scripts (begin script on_conflict m.node.durable) first (Begun (s.last + 1) script.name option)
-      (Some (record { first = first; code = script.code }))
-      (record {
-        notes = if_two answer numbers notes (λ t is it. rw is at it);
-        lives = lives;
-        stops = stops;
-      })
-      (λ follows. begun_live known (s.last + 1) script option first on_conflict follows script_is same named has))
-      (λ steps. bind laptop new new x y y (Some tt) (Some tt) steps
-      (record { step = λ m here. ([], record m { first = first }, sym (append-nil y), (refl, refl, refl), here) }))
-      (λ steps. bind laptop new new x y y None None steps (answers new new y None (λ m here. here)))
 
   -- a repair
   pub repairs : (name : List ℕ) → Noted medium was now answer (Repaired name) (live_of was)
@@ -440,141 +414,29 @@ module _ {D T : Type 0} {medium : Medium D} {laptop : Laptop D} {was now : Clien
       → plan.script.code ≡ code → calls.Resolves medium scripts plan t laptop new x y (done result)
   resolves reply code script only ran lives stops t spells scripts plan plans same =
       let stage : clients.Stage = clients.Resolved (resolution_of plan t) in
-      ends_alone scripts (reach stage) (λ b. b) (λ m here known.
+      ends_alone scripts (reach stage) (λ m here known.
       let live : (done : Resolution) → IsHeadsRun s.held s.items code t done
       → KeptLive scripts (after s (Resolved done (access_of done.acts t))) (live_of was) m.first (reach stage m.node.durable) =
       resolved_live known plan (plans m here) code same script t spells.tree in
+      let reran : (it : Resolves reply code was now) → Reruns code t was now =
+      λ it. subst (λ (u : Nodes). Reruns code u was now) (spelled_changes it.changes only it.read spells) it.reruns in
       record {
-        live = live_of was;
-        ok = if_two answer ran lives (λ u it lives.
-            let reruns = subst (λ (u : Nodes). Reruns code u was now) (spelled_changes it.changes only it.read spells) it.reruns in
-            (Resolved reruns.done (access_of reruns.done.acts t), reruns.notes, rw lives (live reruns.done reruns.run)));
-        cut = λ stopped.
-            let it = stops stopped in
-            let rerun = subst (λ (u : Nodes). CutsOffRerun code u s (records_of was) (medium.may_leave (disk_of now)))
-            (spelled_changes it.changes only it.read spells) it.reruns in
-            (Resolved rerun.done (access_of rerun.done.acts t), rerun.cuts_off, live rerun.done rerun.run);
+        fits = record {
+          ok = IfOk-weaker answer _ _ (λ u it.
+              let reruns = reran it in
+              (Resolved reruns.done (access_of reruns.done.acts t), reruns.notes, (live reruns.done reruns.run).kept)) ran;
+          cut = λ stopped.
+              let it = stops stopped in
+              let rerun = subst (λ (u : Nodes). CutsOffRerun code u s (records_of was) (medium.may_leave (disk_of now)))
+              (spelled_changes it.changes only it.read spells) it.reruns in
+              let kept = live rerun.done rerun.run in
+              (Resolved rerun.done (access_of rerun.done.acts t), rerun.cuts_off, kept.kept, kept.named);
+        };
+        live = if_two answer ran lives (λ u it lives.
+            let reruns = reran it in
+            let kept = live reruns.done reruns.run in
+            (lives ∙ kept.runs, kept.named));
       })
-      (λ steps. steps) (λ steps. steps)
-
-  -- it lets what ran wait
-  pub ends : may_end (state_in laptop) (live_in laptop) ≡ true → Noted medium was now answer Ended None
-      → Changes medium clients.end laptop new x y (done result)
-  ends may noted scripts = alone scripts clients.end Ended None noted (λ m here follows. ended_live here (rw up at may))
-
--- ---- the end
-
--- what is told of it
-pub is_gone : {D : Type 0} {medium : Medium D} {laptop : Laptop D} {was : Client D} → laptop.post ≡ Up (record { client = was })
-    → (ended : client.Ended) (gone : Gone) → gone.printed.transaction ≡ record { client = laptop.name; number = ended.tid }
-    → gone.first ≡ ended.first → gone.printed.output ≡ acts_output (acts_of (state_in laptop).running)
-    → EndsIfAny (state_of was) (state_of was).running (live_of was) ended → IsGone medium laptop gone
-is_gone {medium = medium} {laptop} {was} is ended gone named class printed over scripts m it here runs =
-    let stands : StateStands (state_of was) (live_of was) m.first m.node.durable = rw is at here.state in
-    let known : Running (state_of was).running (live_of was) m.first it =
-    running_is (state_of was) (live_of was) m.first m.node.durable stands it runs in
-    let its : Ends (state_of was) known.own known.besides ended =
-    subst (λ (l : Option Live). EndsIfAny (state_of was) (Some known.own) l ended) known.lives
-    (subst (λ r. EndsIfAny (state_of was) r (live_of was) ended) known.is over) in
-    let own : IsOwnRunIfAny (state_of was) (Some known.besides) =
-    subst (IsOwnRunIfAny (state_of was)) known.lives (rw is at (own_in medium scripts laptop m here)) in
-    record {
-      name = ap name_of named ∙ (λ i. transaction_name (here.name i) ((its.number ∙ known.stands.number) i));
-      class = class ∙ its.class ∙ known.stands.class;
-      did =
-          (rw is at printed) ∙ ap acts_output (sym own.acts
-          ∙ ap (λ (ran : Ran). ran.acts) (so_far_is (state_of was) (live_of was) m.first m.node.durable stands it runs));
-    }
-
--- it has done all that its transaction may do
-pub is_done : {D : Type 0} (medium : Medium D) (laptop : Laptop D) → may_end (state_in laptop) (live_in laptop) ≡ true
-    → IsDoneIn medium laptop
-is_done medium laptop may scripts m it here runs =
-    (may_end_is (state_in laptop) (live_in laptop) m.first m.node.durable here.state it runs).0 may
-
--- then one waits
-pub waits_now : {D : Type 0} (was now : Client D) → Notes Ended was now → waits_of (state_of now).items ≡ true
-waits_now was now notes =
-    ap (λ (s : State). waits_of s.items) notes.state ∙ joined_waits (state_of was).items (state_of was).running notes.follows
-
--- ---- single steps
-
-some_live : (Q : Option Live → Type 0) → (Q None → ⊥) → (live : Option Live) → Q live → (own : Live) × (live ≡ Some own) × Q (Some own)
-some_live Q none None it = absurd (none it)
-some_live Q none (Some own) it = (own, refl, it)
-
-module _ {D : Type 0} {medium : Medium D} {laptop : Laptop D} {was now : Client D} {answer : Result Step ClientFault} {new : Laptop D}
-    {count : ℕ} {x y : List ℕ} {result : Result Step Halt} (up : laptop.post ≡ Up (record { client = was }))
-    (goes : GoesOn medium (record laptop { post = Up (record { client = now }) }) new count answer x y result)
-    (behaves : Behaves medium laptop was now answer count)
-    (placed : place_of was ≡ laptop.place) (does : IfOk answer (λ step. StepIsIfAny was (live_of was) step now))
-    (lives : OnOk answer (live_of now ≡ live_of was))
-    (stops : IsErrOf answer Stopped
-    → CutsOffNextIfAny (live_of was) (state_of was) (records_of was) (medium.may_leave (disk_of now))) where
-  -- an act of what runs
-  acted_by : (live : Live) → live_of was ≡ Some live → (act : Act) → CanAct (state_of was) live
-      → next_acts (state_of was) live.code ≡ act ∷ [] → OnOk answer (Notes (Acted act) was now)
-      → (IsErrOf answer Stopped → CutsOff (Acted act) (state_of was) (records_of was) (medium.may_leave (disk_of now)))
-      → Changes medium act_once laptop new x y (done result)
-  acted_by live has act can next notes cuts scripts =
-      alone up goes behaves scripts act_once (Acted act) (live_of was) (record { notes = notes; lives = lives; stops = cuts })
-      (λ m here follows. acted_live here live has act can next)
-
-  -- the step that was done, of what ran
-  did : (step : Step) → result ≡ Ok step → (own : Live) × (live_of was ≡ Some own) × StepIs was own step now
-  did step ok =
-      some_live (λ live. StepIsIfAny was live step now) (λ none. none) (live_of was)
-      (IfOk-at_ok (λ step. StepIsIfAny was (live_of was) step now) (IfOk-at_ok _ ok goes.answers) does)
-
-  -- the act in which it stopped
-  halted : result ≡ Err Over → (own : Live) × (live_of was ≡ Some own)
-      × CutsOffNext own (state_of was) (records_of was) (medium.may_leave (disk_of now))
-  halted same =
-      some_live (λ live. CutsOffNextIfAny live (state_of was) (records_of was) (medium.may_leave (disk_of now))) (λ none. none)
-      (live_of was) (stops (goes.stopped same))
-
-  stays : (step : Step) → result ≡ Ok step → now ≡ was → (new ≡ laptop) × (y ≡ x)
-  stays step ok same = (
-    IfOk-at_ok _ ok goes.same ∙ ap (λ (it : Client D). record laptop { post = Up (record { client = it }) }) same
-        ∙ at_post laptop (Up (record { client = was })) up,
-    IfOk-at_ok _ ok goes.silent,
-  )
-
-  pub steps_by : (r : Result Step Halt) → result ≡ r → TakesStep medium laptop new x y r
-  steps_by (Ok (steps.Acted acts ended)) same =
-      let it = did (steps.Acted acts ended) same in
-      let ok : answer ≡ Ok (steps.Acted acts ended) = IfOk-at_ok _ same goes.answers in
-      subst (λ (r : Result Step Halt). Changes medium act_once laptop new x y (done r)) same
-      (acted_by it.0 it.1 it.2.act it.2.can it.2.next (IfOk-weaker answer _ _ (λ _ _. it.2.notes) lives)
-      (λ stopped. absurd cc))
-  steps_by (Ok (steps.Fetch request path)) same =
-      let it = did (steps.Fetch request path) same in
-      let kept = stays (steps.Fetch request path) same it.2.1.stays in (
-        kept.0,
-        kept.1,
-        subst (λ (p : Post (Seated D) D). IsRefresh laptop.place (stamps_by p) (wants.Path path) request) (sym up)
-            (subst (λ (p : ℕ). IsRefresh p (stamps_of was) (wants.Path path) request) placed it.2.0),
-        subst (λ (p : Post (Seated D) D). IsFirstOf (live_by p)) (sym up) (subst IsFirstOf (sym it.1) it.2.1.first),
-      )
-  steps_by (Ok (steps.AtEnd acts)) same = stays (steps.AtEnd acts) same (did (steps.AtEnd acts) same).2.2
-  steps_by (Ok (steps.AtLimit acts)) same = stays (steps.AtLimit acts) same (did (steps.AtLimit acts) same).2.3
-  steps_by (Err NoMemory) same = λ scripts. record { is = tt }
-  steps_by (Err Over) same =
-      let it = halted same in
-      subst (λ (r : Result Step Halt). Changes medium act_once laptop new x y (done r)) same
-      (acted_by it.0 it.1 it.2.act it.2.can it.2.next
-      (subst (λ (r : Result Step ClientFault). OnOk r (Notes (Acted it.2.act) was now)) (sym (goes.stopped same)) tt)
-      (λ again. it.2.cuts_off))
-
-  -- so is what the machine does next
-  pub next_by : (r : Result Step Halt) → result ≡ r → NextIs medium laptop r
-  next_by (Ok step) same = λ scripts m running here runs.
-      let it = did step same in
-      next_is was now m.first m.node.durable (stands_was up goes behaves scripts m here) running runs it.0 it.1 step it.2
-  next_by (Err NoMemory) same = tt
-  next_by (Err Over) same = λ scripts m running here runs.
-      let it = halted same in
-      acts_is _ _ m.first m.node.durable (stands_was up goes behaves scripts m here) running runs it.0 it.1 it.2.can
 
 -- ---- its disk
 

@@ -1,21 +1,18 @@
 -- What is known of a client by its node.
-use Rattle.std.proofs.Common.{◌≡◌, ℕ, Bool, true, false, List, Option, Some, None, refl, sym, ap, subst, ◌∙◌, rules}
-use Rattle.iot_laptop.specs.Below.{Transaction, Live, IsOwnRunIfAny, state_of, Client, Medium, Declared, ClientState, Call, At, Node}
+use Rattle.std.proofs.Common.{◌≡◌, ℕ, true, false, List, refl, sym, ap, subst, ◌∙◌, rules}
+use Rattle.iot_laptop.specs.Below.{Client, Medium, Declared, ClientState, Call, At, Node}
 use Rattle.iot_laptop.specs.Below.{Possibly, PostStands, UpStands, StepsFrom, StepsTo, Post, Up, Down, Between, no_text, Laptop, Seated}
 use Rattle.iot_machine.proofs.PossiblyLaws.{possibly_sure}
-use Rattle.iot_client.specs.Ties.{IsBegunIfAny}
-use Rattle.iot_client.proofs.StepsLaws.{own}
 use Rattle.iot_node.proofs.PostsLaws.{on_has, on_is}
-use Rattle.iot_client.specs.Ties as client
-use Rattle.iot_machine.specs.Clients as clients
 use Rattle.iot_machine.specs.Machine as machine
 use Rattle.iot_standing.specs.Kept.{StateKept}
 use Rattle.iot_laptop.specs.Laptops.{LaptopStands, FallenStands, ClientStands, awake, fallen, Stands, StandsAnyhow, IsLent, state_by}
 use Rattle.iot_laptop.specs.Laptops.{live_by, is_alive, state_in, live_in, NodeStands}
-use Rattle.iot_standing.specs.States.{RunningStandsIfAny, StateStands}
+use Rattle.iot_standing.specs.States.{StateStands}
 use Rattle.iot_standing.specs.Scripts.{AreNamed}
 use Rattle.iot_laptop.specs.Seats.{seating}
-use Rattle.iot_standing.proofs.KeptLaws.{live_with, stands_with}
+use Rattle.iot_standing.proofs.KeptLaws.{stands_with}
+use Rattle.iot_standing.proofs.RunsLaws.{are_begun, live_with}
 
 pub not_both : true ≡ false → ⊥
 not_both e = cc
@@ -27,14 +24,6 @@ at_post laptop post is = ap (λ (p : Post _ _). record laptop { post = p }) (sym
 -- a laptop with this post is over this node
 abbrev pub Posted : {D : Type 0} → Medium D → Laptop D → Post (Seated D) D → Node ClientState → Type 0
 Posted medium laptop = PostStands (seating medium laptop.place) medium no_text
-
--- what runs was begun since the start, if something runs
-begun_by : (r : Option Transaction) (live : Option Live) (first : Bool) (o : Option clients.Running)
-    → RunningStandsIfAny r live first o → IsBegunIfAny r live
-begun_by (Some running) None first None stands = absurd stands
-begun_by (Some running) None first (Some it) stands = absurd stands
-begun_by None None first o stands = tt
-begun_by r (Some own) first o stands = tt
 
 -- what is kept of one that is alive
 pub kept_up : {D : Type 0} (medium : Medium D) (place : ℕ) (post : Post (Seated D) D) (node : Node ClientState)
@@ -83,6 +72,10 @@ module _ {D : Type 0} (medium : Medium D) where
     up_at : LaptopStands medium scripts laptop m → (seated : Seated D) × (laptop.post ≡ Up seated)
     up_at here = on_has laptop.post (is_awake here)
 
+    -- what is on its disk
+    pub kept_in : LaptopStands medium scripts laptop m → StateKept (state_in laptop) m.node.durable
+    kept_in here = kept_up medium laptop.place laptop.post m.node here.node here.alive
+
     pub may_be_named : ClientStands medium scripts laptop m → Possibly (AreNamed scripts) m.node
     may_be_named (awake here) =
         let up = up_at here in possibly_sure m.node (up_stands up.0.client up.1 here).sure here.named
@@ -98,22 +91,14 @@ module _ {D : Type 0} (medium : Medium D) where
           live = sym (ap live_by is);
           place = up.stands.place_is;
           tied = up.stands.tied;
-          begun = rw is at (begun_by (state_in laptop).running (live_in laptop) m.first m.node.durable.running here.state.running);
+          begun = rw is at (are_begun (state_in laptop).running (live_in laptop) m.first m.node.durable.running here.state.running);
         }
-
-    -- its acts are those of its script's run
-    pub own_in : LaptopStands medium scripts laptop m → IsOwnRunIfAny (state_in laptop) (live_in laptop)
-    own_in here =
-        let up = up_at here in
-        let it = up.0.client in
-        let lent = lent_stands it up.1 here in
-        rw up.1 (own (state_of it) (client.class_in it) it.interpreter lent.tied.runs lent.begun)
 
     -- ---- over another post
 
     module _ (name : laptop.name ≡ m.name) (link : laptop.link ≡ m.link) (post : Post (Seated D) D) (n : Node ClientState)
         (stands : Posted medium laptop post n) where
-      pub awake_at : n.alive ≡ true → (first : Bool) → live_by post ≡ live_with first n.durable.running → AreNamed scripts n.durable
+      pub awake_at : n.alive ≡ true → (first : List ℕ) → live_by post ≡ live_with first n.durable.running → AreNamed scripts n.durable
           → LaptopStands medium scripts (record laptop { post = post }) (record m { node = n; first = first })
       awake_at up first runs named =
           let state : StateStands (state_by post) (live_by post) first n.durable =

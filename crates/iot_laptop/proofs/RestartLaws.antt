@@ -1,51 +1,53 @@
 -- What befalls a laptop: its link, and a start, a crash, a restart and an armed disk of its node.
-use Rattle.std.proofs.lemmas.Result.{IfOk-weaker, on_ok_weaker, IfOk-at_ok}
-use Rattle.std.proofs.Common.{◌≡◌, ◌⊎◌, ℕ, Bool, true, false, List, [], ◌++◌, length, Option, Some, None, Result, Ok, Err, inl, inr, refl}
+use Rattle.std.proofs.lemmas.Result.{on_ok_weaker}
+use Rattle.std.proofs.Common.{◌≡◌, ◌⊎◌, ℕ, Bool, true, false, List, [], ◌∷◌, ◌++◌, map, Option, Some, None, Result, inl, inr, refl}
 use Rattle.std.proofs.Common.{sym, ap, subst, ◌∙◌, codes, if◌then◌else◌, arith, rules}
-use Rattle.std.specs.Prelude.{IfOk, OnOk, IsErrOf}
+use Rattle.std.specs.Prelude.{OnOk}
 use Rattle.std.proofs.lemmas.List.{append-nil}
 use Rattle.std.proofs.lemmas.Option.{same_Some}
-use Rattle.iot_durable.specs.Standing.{header}
+use Rattle.iot_client.specs.Calls.{ChangesClasses}
+use Rattle.iot_client.specs.Ties.{AreRuns, classes_in}
+use Rattle.iot_kept.specs.Rules.{header}
 use Rattle.iot_slots.specs.Decoding.{Decoded, NotStarted, decoded, state_of as encoded_in}
-use Rattle.iot_laptop.specs.Below.{Nodes, IsTree, Transaction, opening, Notes, second_class, state_of, live_of, disk_of, IsTied}
-use Rattle.iot_laptop.specs.Below.{stamps_of, place_of, records_of, Client, ClientFault, Stopped, Medium, At, Declared, ClientState, base}
-use Rattle.iot_laptop.specs.Below.{cut, new_client, Node, unopened, Refines, Possibly, OpensNode, stopped_line, transaction_name, KeepsDisk}
-use Rattle.iot_laptop.specs.Below.{counts_on, IsEmpty, is_on, PostStands, UpStands, StepsFrom, CameIf, StepsTo, Halt, Over, Post, Up, Down}
-use Rattle.iot_laptop.specs.Below.{no_text, name_of, Laptop, Seated, Passage, FarDir}
-use Rattle.iot_link.specs.Links.{LinkState, after_exchange}
-use Rattle.iot_node.proofs.StepsToLaws.{bind, asks, says, says_this, nothing}
+use Rattle.iot_laptop.specs.Below.{IsTree, Transaction, Live, State, opening, second_class, live_of, IsTied}
+use Rattle.iot_laptop.specs.Below.{Client, Medium, At, Declared, ClientState}
+use Rattle.iot_laptop.specs.Below.{new_client, Node, unopened, Refines, Possibly, OpensNode, stopped_line, KeepsDisk}
+use Rattle.iot_laptop.specs.Below.{counts_on, IsEmpty, is_on, PostStands, CameIf, StepsTo, Post, Up, Down, Between}
+use Rattle.iot_laptop.specs.Below.{no_text, Laptop, Seated, Passage, FarDir}
+use Rattle.iot_link.specs.Links.{LinkState, after_exchange, connected}
+use Rattle.iot_node.proofs.StepsToLaws.{bind, asks, says_this, nothing}
 use Rattle.iot_count.specs.Counts.{Rose}
-use Rattle.iot_changes.specs.declared.changes.Change.TheVariants.{Cut}
-use Rattle.iot_client.specs.Calls.{CutsIfAny}
 use Rattle.iot_machine.specs.Calls.{goes_on, Does}
 use Rattle.iot_machine.specs.Nodes.{armed}
 use Rattle.iot_machine.specs.Stops.{ComesBack, Crashes, ArmsDisk}
-use Rattle.iot_machine.specs.Texts.{line, cut_line, disconnect_line}
+use Rattle.iot_machine.specs.Texts.{line, disconnect_line}
 use Rattle.iot_machine.proofs.PossiblyLaws.{comes_within, possibly_same, opens_states, crashes_within}
 use Rattle.iot_node.specs.Posts.{IsStanding}
-use Rattle.iot_machine.specs.Events.{CutsOff, RestartsClient, cuts_off, Disconnects, CrashesClient, ArmsClient}
+use Rattle.iot_machine.specs.Events.{CutsOff, RestartsClient, Disconnects, CrashesClient, ArmsClient}
 use Rattle.iot_link.specs.declared.passages.Passage.TheVariants.{Away, RequestLost, ReplyLost, Both}
 use Rattle.iot_node.proofs.StepsLaws.{does, refines}
 use Rattle.iot_node.proofs.PostsLaws.{on_is}
 use Rattle.iot_disk.specs.declared.disk.Pick.{Pick}
 use Rattle.iot_tree.proofs.RowLaws.{root_rows, root_map}
 use Rattle.iot_judging.proofs.SpelledTreesLaws.{far_root_spelled}
-use Rattle.iot_client.specs.Calls as client
 use Rattle.iot_machine.specs.Clients as clients
 use Rattle.iot_machine.specs.Machine as machine
 use Rattle.iot_node.specs.Posts as posts
-use Rattle.iot_node.specs.declared.lines.Transaction as names
 use Rattle.iot_link.specs.Links as links
-use Rattle.iot_laptop.specs.Calls.{GoesOn, ReturnedStands, Returned, Came, running_name}
-use Rattle.iot_standing.specs.Kept.{RunningKeptIfAny, StateKept}
-use Rattle.iot_laptop.specs.Laptops.{LaptopStands, FallenStands, ClientStands, awake, StandsAnyhow, is_alive, disk_by, state_in, live_by}
-use Rattle.iot_laptop.specs.Laptops.{state_by, fallen, Stands, Relinked, IsSecondNow, IsCutLink, after_passage, IsUnopened, unopened_laptop}
+use Rattle.iot_laptop.specs.Calls.{ReturnedStands, Returned, Came, CutsAll}
+use Rattle.iot_standing.specs.Kept.{RunKept}
+use Rattle.iot_standing.specs.States.{StateStands}
+use Rattle.iot_laptop.specs.Laptops.{LaptopStands, FallenStands, ClientStands, awake, StandsAnyhow, is_alive, disk_by, live_by, all_second}
+use Rattle.iot_laptop.specs.Laptops.{state_by, fallen, Stands, Relinked, Reclassed, IsCutLink, after_passage, IsUnopened, unopened_laptop}
 use Rattle.iot_standing.specs.Scripts.{AreNamed}
-use Rattle.iot_laptop.specs.Seats.{seating, Besides, besides, none_besides, IsClientImage}
-use Rattle.iot_laptop.proofs.CallsLaws.{keeps_post, Behaves, Before, Fits, goes_at, halts_at, fits_with}
-use Rattle.iot_standing.proofs.KeptLaws.{live_with, cut_live, live_then, idle_is, idle_runs}
+use Rattle.iot_laptop.specs.Seats.{seating, Besides, begun_of, besides, none_besides, IsClientImage}
+use Rattle.iot_standing.proofs.KeptLaws.{idle_runs}
+use Rattle.iot_standing.proofs.RunsLaws.{live_with, lives_then, none_live}
+use Rattle.iot_laptop.proofs.CallsLaws.{keeps_post}
+use Rattle.iot_laptop.proofs.ClassesLaws.{all_reclassed}
 use Rattle.iot_laptop.proofs.NodesLaws.{Posted, not_both, kept_up, node_stands, fallen_stands, awake_stands, awake_at, fallen_at, at_node}
 use Rattle.iot_laptop.proofs.NodesLaws.{same_name, same_link, may_be_named}
+use Rattle.iot_laptop.proofs.SeatsLaws.{begun_all, known_again}
 use Rattle.iot_laptop.specs.Alone.{OpensClient}
 
 pub not_through : (p : Passage) → (p ≡ Away) ⊎ ((p ≡ RequestLost) ⊎ (p ≡ ReplyLost)) → p ≡ Both → ⊥
@@ -92,10 +94,10 @@ module _ {D : Type 0} (medium : Medium D) (laptop : Laptop D) where
 
   -- ---- an exchange that does not get through
 
-  -- over another link, with what runs second class, by a change of the client of the machine that does both
+  -- over another link, with all that run second class, by a change of the client of the machine that does both
   pub over_second : (link : LinkState) (new : Laptop D) {change : machine.Client → machine.Client}
-      → ((m : machine.Client) → laptop.link ≡ m.link → record m { link = link; first = false } ≡ change m)
-      → IsSecondNow medium (record laptop { link = link }) new → Relinked medium change laptop new
+      → ((m : machine.Client) → laptop.link ≡ m.link → record m { link = link; first = [] } ≡ change m)
+      → Reclassed medium all_second (record laptop { link = link }) new → Relinked medium change laptop new
   over_second link new is second = record {
     place = second.place;
     state = second.state;
@@ -108,12 +110,81 @@ module _ {D : Type 0} (medium : Medium D) (laptop : Laptop D) where
   -- so it is after any that did not get through
   pub is_over : (p : Passage) (link : LinkState) (new : Laptop D) → link ≡ after_exchange p laptop.link
       → (p ≡ Away) ⊎ ((p ≡ RequestLost) ⊎ (p ≡ ReplyLost))
-      → IsSecondNow medium (record laptop { link = link }) new → Relinked medium (after_passage p) laptop new
-  is_over Away link new is lost second = over_second link new (λ m same. λ i. record m { link = (is ∙ same) i; first = false }) second
+      → Reclassed medium all_second (record laptop { link = link }) new → Relinked medium (after_passage p) laptop new
+  is_over Away link new is lost second = over_second link new (λ m same. λ i. record m { link = (is ∙ same) i; first = [] }) second
   is_over Both link new is lost second = absurd (not_through Both lost refl)
-  is_over p link new is lost second = over_second link new (λ m same. λ i. record m { link = is i; first = false }) second
+  is_over p link new is lost second = over_second link new (λ m same. λ i. record m { link = is i; first = [] }) second
+
+-- ---- its link is cut
+
+-- over another link, with all that run second class
+pub cuts_live : {D : Type 0} (medium : Medium D) (laptop : Laptop D) (was now : Client D) (link : LinkState)
+    → laptop.post ≡ Up (record { client = was }) → link ≡ connected false laptop.link → ChangesClasses was now → IsTied medium now
+    → live_of now ≡ map second_class (live_of was)
+    → IsCutLink medium laptop (record laptop { link = link; post = Up (record { client = now }) })
+cuts_live medium laptop was now link up is same tied second =
+    let over : Laptop _ = record laptop { link = link } in
+    let it : Reclassed medium all_second over (record over { post = Up (record { client = now }) }) =
+    all_reclassed medium over was now up same tied second in
+    record {
+      place = refl;
+      name = refl;
+      alive = it.alive;
+      stamps = it.stamps;
+      disk = it.disk;
+      stands = λ scripts m here.
+          let awake_so : LaptopStands medium scripts laptop m =
+          awake_stands medium scripts laptop m (ap is_on up) here in
+          awake
+          (subst (λ (l : LinkState). LaptopStands medium scripts (record over { post = Up (record { client = now }) })
+          (record m { link = l; first = [] })) (is ∙ ap (connected false) awake_so.link)
+          (it.stands scripts (record m { link = link }) (over_link medium laptop link scripts m awake_so)));
+    }
+
+-- one that is down has no other one
+pub cuts_down : {D : Type 0} (medium : Medium D) (laptop : Laptop D) (link : LinkState) → is_on laptop.post ≡ false
+    → link ≡ connected false laptop.link → IsCutLink medium laptop (record laptop { link = link })
+cuts_down medium laptop link off is = record {
+  place = refl;
+  name = refl;
+  alive = refl;
+  stamps = refl;
+  disk = refl;
+  stands = λ scripts m here.
+      let down : FallenStands medium scripts laptop m = fallen_stands medium scripts laptop m off here in
+      fallen (record {
+        name = down.name;
+        link = is ∙ ap (connected false) down.link;
+        alive = down.alive;
+        node = down.node;
+        named = down.named;
+      });
+}
 
 -- ---- its node
+
+-- what is known besides of one that is alive, by what was begun
+known_up : {D : Type 0} (medium : Medium D) (place : ℕ) (post : Post (Seated D) D) (node : Node ClientState)
+    → PostStands (seating medium place) medium no_text post node → node.alive ≡ true → (first : List ℕ)
+    → begun_of (live_by post) ≡ live_with first node.durable.running → live_by post ≡ live_with first node.durable.running
+known_up medium place (Up seated) node here up first begun =
+    known_again seated.client here.stands.tied first node.durable.running here.stands.kept.running begun
+known_up medium place (Down down) node here up first begun = absurd (not_both (sym up ∙ here.alive))
+known_up medium place Between node here up first begun = absurd here
+
+-- nothing is known of what runs if nothing runs
+none_up : {D : Type 0} (medium : Medium D) (place : ℕ) (post : Post (Seated D) D) (node : Node ClientState)
+    → PostStands (seating medium place) medium no_text post node → node.alive ≡ true → (state_by post).running ≡ [] → live_by post ≡ []
+none_up medium place (Up seated) node here up none =
+    none_live (classes_in seated.client) seated.client.interpreters.items
+    (subst (λ (running : List Transaction). AreRuns running seated.client.interpreters.items) none here.stands.tied.runs)
+none_up medium place (Down down) node here up none = absurd (not_both (sym up ∙ here.alive))
+none_up medium place Between node here up none = absurd here
+
+begun_here : (first : List ℕ) (lives : List Live) (m : ClientState) {s : State} → StateStands s lives first m
+    → begun_of lives ≡ live_with first m.running
+begun_here first lives m {s} here =
+    ap begun_of (lives_then s.running lives first m.running here.running) ∙ begun_all first m.running
 
 module _ {D : Type 0} (medium : Medium D) (laptop : Laptop D) (post : Post (Seated D) D) where
   abbrev next : Laptop D
@@ -135,15 +206,15 @@ module _ {D : Type 0} (medium : Medium D) (laptop : Laptop D) (post : Post (Seat
 
   -- ---- its disk is armed
 
-  module _ (calls : ℕ) (pick : Pick) (live : live_by post ≡ live_by laptop.post) where
+  module _ (calls : ℕ) (pick : Pick) (live : begun_of (live_by post) ≡ begun_of (live_by laptop.post)) where
     arms_by : (scripts : List Declared) (m : machine.Client) → ClientStands medium scripts laptop m
         → Posted medium laptop post (armed calls pick m.node)
         → ClientStands medium scripts next (record m { node = armed calls pick m.node })
     arms_by scripts m (awake here) stands =
         awake
         (awake_at medium scripts laptop m here.name here.link post (armed calls pick m.node) stands here.alive m.first
-        (live ∙ live_then _ (live_by laptop.post) m.first m.node.durable.running here.state.running)
-        here.named)
+        (known_up medium laptop.place post (armed calls pick m.node) stands here.alive m.first
+        (live ∙ begun_here m.first (live_by laptop.post) m.node.durable here.state)) here.named)
     arms_by scripts m (fallen here) stands =
         fallen_at medium scripts laptop m here.name here.link post (armed calls pick m.node) stands here.alive
         (record { is = here.named.is; may_be = here.named.may_be })
@@ -216,9 +287,9 @@ module _ {D : Type 0} (medium : Medium D) (disk : D) (empty : IsEmpty medium dis
 -- ---- it starts for the first time
 
 -- nothing runs
-none_runs : (t : Nodes) (r : Option Transaction) → RunningKeptIfAny t r None → r ≡ None
-none_runs t None kept = refl
-none_runs t (Some running) kept = absurd kept
+none_runs : (running : List Transaction) → RunKept running [] → running ≡ []
+none_runs [] kept = refl
+none_runs (it ∷ running) kept = absurd kept
 
 module _ {D : Type 0} (medium : Medium D) (laptop : Laptop D) (new : IsUnopened medium laptop) where
   pub opens_standing : IsStanding (seating medium laptop.place) medium laptop.post
@@ -229,16 +300,15 @@ module _ {D : Type 0} (medium : Medium D) (laptop : Laptop D) (new : IsUnopened 
   }
 
   module _ (post : Post (Seated D) D) (x y : List ℕ) (on : Bool)
-      (it : Refines (Posted medium laptop) (OpensNode laptop.name) laptop.post post x y on)
-      (live : live_by post ≡ None) where
+      (it : Refines (Posted medium laptop) (OpensNode laptop.name) laptop.post post x y on) where
     -- what was started knows nothing
-    started_idle : is_on post ≡ true → (state_by post).running ≡ None
+    started_idle : is_on post ≡ true → (state_by post).running ≡ []
     unfolding opens_standing
     started_idle up =
         let s = it.step opens_standing.node opens_standing.stands in
         let kept = kept_up medium laptop.place post s.1 s.4 (on_is (seating medium laptop.place) medium no_text post s.1 s.4 ∙ up) in
-        none_runs (base s.1.durable) (state_by post).running
-        (subst (λ (o : Option clients.Running). RunningKeptIfAny (base s.1.durable) (state_by post).running o)
+        none_runs (state_by post).running
+        (subst (λ (ms : List clients.Running). RunKept (state_by post).running ms)
         (ap (λ (state : ClientState). state.running) (opens_states laptop.name opens_standing.node s.1 s.0 on s.3).durable) kept.running)
 
     opens_at : (scripts : List Declared) (m : machine.Client) (n : Node ClientState) → FallenStands medium scripts laptop m
@@ -248,7 +318,8 @@ module _ {D : Type 0} (medium : Medium D) (laptop : Laptop D) (new : IsUnopened 
         let alive = on_is (seating medium laptop.place) medium no_text post n stands ∙ up in
         awake
         (awake_at medium scripts laptop m here.name here.link post n stands alive m.first
-        (live ∙ idle_runs m.first (state_by post) n.durable (started_idle up) (kept_up medium laptop.place post n stands alive))
+        (none_up medium laptop.place post n stands alive (started_idle up)
+        ∙ idle_runs m.first (state_by post) n.durable (started_idle up) (kept_up medium laptop.place post n stands alive))
         named.is)
     opens_at scripts m n here stands false off named =
         fallen_at medium scripts laptop m here.name here.link post n stands
@@ -268,16 +339,16 @@ module _ {D : Type 0} (medium : Medium D) (laptop : Laptop D) (new : IsUnopened 
 
 -- ---- what is known besides
 
-pub live_again : {D : Type 0} (old new : Post (Seated D) D) → posts.live_of besides new ≡ posts.live_of besides old → live_by new ≡
-    live_by old
-live_again (Up a) (Up b) same = ap (λ (b : Besides). b.live) (same_Some _ _ same)
+pub live_again : {D : Type 0} (old new : Post (Seated D) D) → posts.live_of besides new ≡ posts.live_of besides old
+    → begun_of (live_by new) ≡ begun_of (live_by old)
+live_again (Up a) (Up b) same = ap (λ (b : Besides). b.begun) (same_Some _ _ same)
 live_again (Up a) new same = absurd cc
 live_again old (Up b) same = absurd cc
 live_again old new same = refl
 
-pub live_fresh : {D : Type 0} (new : Post (Seated D) D) (on : Bool) → posts.live_of besides new ≡ (if on then Some none_besides else None)
-    → live_by new ≡ None
-live_fresh (Up b) true same = ap (λ (b : Besides). b.live) (same_Some _ _ same)
+live_fresh : {D : Type 0} (new : Post (Seated D) D) (on : Bool) → posts.live_of besides new ≡ (if on then Some none_besides else None)
+    → begun_of (live_by new) ≡ []
+live_fresh (Up b) true same = ap (λ (b : Besides). b.begun) (same_Some _ _ same)
 live_fresh (Up b) false same = absurd cc
 live_fresh new on same = refl
 
@@ -364,7 +435,7 @@ module _ {D : Type 0} (medium : Medium D) (old : Laptop D) where
           true
       returns scripts = steps_back back scripts (λ m down n stands named.
           let alive : n.alive ≡ true = alive_is back n stands in
-          let live : live_by post ≡ None = live_fresh post true back.live in
+          let found : begun_of (live_by post) ≡ [] = live_fresh post true back.live in
           search rules)
 
       pub is_back : StandsAnyhow medium old → Returned medium mid
@@ -373,8 +444,7 @@ module _ {D : Type 0} (medium : Medium D) (old : Laptop D) where
           record { scripts = stands.scripts; machine = _; stands = ((returns stands.scripts).step stands.machine down).4 }
 
       module _ (new : Laptop D) (z : List ℕ)
-          (cut : (scripts : List Declared)
-          → StepsTo (ReturnedStands medium scripts) (ClientStands medium scripts) CutsOff mid new y z tt) where
+          (cut : (scripts : List Declared) → CutsAll medium scripts mid new y z) where
         pub comes_back : (scripts : List Declared) → Refines (ClientStands medium scripts) RestartsClient old new x z tt
         comes_back scripts = comes back scripts (returns scripts) new z (cut scripts)
 
@@ -390,123 +460,6 @@ module _ {D : Type 0} (medium : Medium D) (old : Laptop D) where
               whole = t.2;
               stopped = λ never. absurd (not_both never);
             }
-
--- ---- what ran is cut off
-
--- the transaction that was found running is the machine's
-record Found (laptop_name : List ℕ) (transaction : names.Transaction) (r : Option Transaction) (o : Option clients.Running) : Type
-    0 where
-  own : Transaction
-  is : r ≡ Some own
-  it : clients.Running
-  runs : o ≡ Some it
-  name : transaction ≡ record { client = laptop_name; number = it.number }
-  acts : length own.acts ≡ it.acts
-
-module _ {D : Type 0} (medium : Medium D) (laptop : Laptop D) where
-  found_by : (transaction : names.Transaction) (t : Nodes) (r : Option Transaction) (o : Option clients.Running)
-      → running_name laptop r ≡ Some transaction → RunningKeptIfAny t r o → Found laptop.name transaction r o
-  found_by transaction t None o name kept = absurd cc
-  found_by transaction t (Some own) None name kept = absurd kept
-  found_by transaction t (Some own) (Some it) name kept =
-      let named : transaction ≡ record { client = laptop.name; number = it.number } =
-      sym (same_Some _ _ name) ∙ ap (λ (n : ℕ). record { client = laptop.name; number = n }) kept.number in
-      record { own = own; is = refl; it = it; runs = refl; name = named; acts = kept.count }
-
-  nameless : (r : Option Transaction) → running_name laptop r ≡ None → r ≡ None
-  nameless None none = refl
-  nameless (Some running) none = absurd cc
-
-  -- by what runs in the client of the machine
-  cuts_by : (scripts : List Declared) (new : Laptop D) (x z : List ℕ)
-      → ((m : machine.Client) → ReturnedStands medium scripts laptop m → (o : Option clients.Running) × (m.node.durable.running ≡ o)
-      × StepsFrom (ClientStands medium scripts) (cuts_off o) m new x z tt)
-      → StepsTo (ReturnedStands medium scripts) (ClientStands medium scripts) CutsOff laptop new x z tt
-  cuts_by scripts new x z each = record {
-    step = λ m here.
-        let it = each m here in
-        let s = it.2 in
-        let rest = subst (λ (o : Option clients.Running). cuts_off o m s.0 tt s.1) (sym it.1) s.3 in (
-          s.0,
-          s.1,
-          s.2,
-          record { mid = m; front = []; rest = s.0; answer = _; first = (refl, refl, refl); second = rest; whole = refl },
-          s.4,
-        );
-  }
-
-  -- it found nothing running
-  pub cuts_nothing : (x : List ℕ) → running_name laptop (state_in laptop).running ≡ None → (scripts : List Declared)
-      → StepsTo (ReturnedStands medium scripts) (ClientStands medium scripts) CutsOff laptop laptop x x tt
-  cuts_nothing x found scripts =
-      cuts_by scripts laptop x x (λ m here.
-      let kept = kept_up medium laptop.place laptop.post m.node here.node here.alive in
-      let none = idle_is (base m.node.durable) m.node.durable.running (rw (nameless _ found) at kept.running) in (
-        None,
-        none,
-        (nothing {stands = ClientStands medium scripts} laptop x).step m
-            (awake
-            (awake_at medium scripts laptop m here.name here.link laptop.post m.node here.node here.alive m.first
-            (here.live ∙ sym (ap (live_with m.first) none)) here.named)),
-      ))
-
-  module _ {was now : Client D} {answer : Result (Option ℕ) ClientFault} {new : Laptop D} {count : ℕ} {x y : List ℕ}
-      {result : Result (Option ℕ) Halt} (post_up : laptop.post ≡ Up (record { client = was }))
-      (goes : GoesOn medium (record laptop { post = Up (record { client = now }) }) new count answer x y result)
-      (behaves : Behaves medium laptop was now answer count)
-      (transaction : names.Transaction) (found : running_name laptop (state_in laptop).running ≡ Some transaction)
-      (cuts : IfOk answer (λ told. CutsIfAny (state_of was).running told was now)) (lives : OnOk answer (live_of now ≡ None))
-      (stops : IsErrOf answer Stopped → client.CutsOff Cut (state_of was) (records_of was) (medium.may_leave (disk_of now))) where
-    module _ (scripts : List Declared) (m : machine.Client) (here : ReturnedStands medium scripts laptop m) where
-      up_in : UpStands (seating medium laptop.place) medium no_text (record { client = was }) m.node
-      up_in = rw post_up at here.node
-
-      found_in : Found laptop.name transaction (state_of was).running m.node.durable.running
-      found_in =
-          found_by transaction (base m.node.durable) (state_of was).running m.node.durable.running
-          (rw post_up at found) up_in.stands.kept.running
-
-      cuts_so : IfOk answer (λ told. (told ≡ Some (length found_in.own.acts)) × Notes Cut was now)
-      cuts_so = rw found_in.is at cuts
-
-      fits : Before medium laptop scripts m × Fits medium was now answer scripts (cut m.node.durable) m.first
-      fits = (
-        search rules,
-        fits_with post_up goes behaves scripts (cut m.node.durable) m.first Cut None
-            (record { notes = IfOk-weaker answer _ _ (λ told is. is.1) cuts_so; lives = lives; stops = stops })
-            (λ follows. cut_live (state_of was) m.node.durable up_in.stands.kept scripts m.first here.named),
-      )
-
-    -- what was found waits now, which is said
-    pub cuts_off_now : (acts : ℕ) → result ≡ Ok (Some acts) → (z : List ℕ)
-        → z ≡ y ++ cut_line (name_of transaction) acts → (scripts : List Declared)
-        → StepsTo (ReturnedStands medium scripts) (ClientStands medium scripts) CutsOff laptop new x z tt
-    cuts_off_now acts same z wrote scripts =
-        cuts_by scripts new x z (λ m here.
-        let it = found_in scripts m here in
-        let many : acts ≡ it.it.acts =
-        same_Some _ _ (IfOk-at_ok _ (IfOk-at_ok _ same goes.answers) (cuts_so scripts m here)).0 ∙ it.acts in
-        let steps : StepsTo (ReturnedStands medium scripts) (LaptopStands medium scripts) (cuts_off (Some it.it)) laptop new x z tt =
-        bind laptop new new x y z true tt
-        (goes_at post_up goes behaves scripts (ReturnedStands medium scripts) cut (λ b. b) (fits scripts) (Some acts) same)
-        (says new y z (λ k there.
-        wrote ∙ ap (λ (w : List ℕ). y ++ w)
-        ((λ i. cut_line (name_of (it.name i)) (many i))
-        ∙ ap (λ (n : List ℕ). cut_line (transaction_name n it.it.number) it.it.acts)
-        (ap (λ (l : Laptop D). l.name) (sym goes.rest) ∙ there.name)))) in
-        let s = steps.step m here in
-        (Some it.it, it.runs, (s.0, s.1, s.2, s.3, awake s.4)))
-
-    -- it has stopped in the cut
-    pub cut_halts : result ≡ Err Over → (scripts : List Declared)
-        → StepsTo (ReturnedStands medium scripts) (ClientStands medium scripts) CutsOff laptop new x y tt
-    cut_halts same scripts =
-        cuts_by scripts new x y (λ m here.
-        let it = found_in scripts m here in
-        let steps : StepsTo (ReturnedStands medium scripts) (ClientStands medium scripts) (cuts_off (Some it.it)) laptop new x y tt =
-        bind laptop new new x y y false tt
-        (halts_at post_up goes behaves scripts (ReturnedStands medium scripts) cut (λ b. b) (fits scripts) same) (nothing new y) in
-        (Some it.it, it.runs, steps.step m here))
 
 -- ---- its disk
 

@@ -1,9 +1,12 @@
 -- What a client of the machine does alone, and how a call ends its event.
-use Rattle.std.specs.Prelude.{Bool, Some}
+use Rattle.std.specs.Prelude.{◌≡◌, ℕ, ◌+◌, Bool, true, false, List, [], Option, Some, None}
+use Rattle.iot_tree.specs.declared.questions.Question.{Question}
 use Rattle.iot_laptop.specs.Below.{Try, Call, At, Declared, ClientState, begin, Writes, OnConflict, OpensNode}
-use Rattle.iot_machine.specs.Calls.{Goes, Gets, Answers, Then}
-use Rattle.iot_machine.specs.Machine.{Client, node}
-use Rattle.iot_machine.specs.Transactions.{unless_stopped}
+use Rattle.iot_machine.specs.Calls.{Part, Goes, Gets, Asks, Answers, Does, Then}
+use Rattle.iot_machine.specs.Clients.{Running, view, numbered, reads_here, reads_on, ReadsSame, end, again}
+use Rattle.iot_machine.specs.Machine.{Client, node, classed}
+use Rattle.iot_machine.specs.Serving.{Parts, Conflict}
+use Rattle.iot_machine.specs.Transactions.{unless_stopped, has_any, Compared, Same, Differs}
 
 -- ---- its record
 
@@ -11,13 +14,54 @@ use Rattle.iot_machine.specs.Transactions.{unless_stopped}
 abbrev pub NotesAlone : (ClientState → ClientState) → Try Client (Unit {0})
 NotesAlone change = Then (Writes change) (λ on. Answers (unless_stopped on))
 
--- its running transaction is first class from now on, or second class
-abbrev pub set_class : (first : Bool) → Client → Client
-set_class first client = record client { first = first }
+-- its running transaction with this number is first class from now on, or second class
+abbrev pub set_class : (number : ℕ) → (first : Bool) → Client → Client
+set_class number first client = record client { first = classed number first client.first }
 
--- its next transaction begins, first class or not
-abbrev pub StartsAlone : Declared → OnConflict Declared → (first : Bool) → Try Client (Unit {0})
-StartsAlone script option first = Goes (NotesAlone (begin script option)) (λ _. Gets (λ _. Some tt) (set_class first))
+-- its next transaction begins, first class or not, and has this number
+abbrev pub StartsAlone : Declared → OnConflict Declared → (first : Bool) → Try Client ℕ
+StartsAlone script option first =
+    Then (Asks (λ client. client.node.durable.last + 1)) (λ number.
+    Goes (NotesAlone (begin script option)) (λ _. Gets (λ _. Some number) (set_class number first)))
+
+-- if transactions wait, the running one with this number is second class from now on
+abbrev pub yields_by : (number : ℕ) → (pends : Bool) → Client → Client
+yields_by number true client = set_class number false client
+yields_by number false client = client
+
+abbrev pub yielding : (number : ℕ) → Client → Client
+yielding number client = yields_by number (has_any client.node.durable.items) client
+
+abbrev pub YieldsAlone : (number : ℕ) → Part Client
+YieldsAlone number = Does (λ _. []) (yielding number)
+
+-- and then it notes this change
+abbrev pub YieldsAndNotes : (number : ℕ) → (ClientState → ClientState) → Try Client (Unit {0})
+YieldsAndNotes number change = Then (YieldsAlone number) (λ _. NotesAlone change)
+
+-- ---- the end
+
+-- a running transaction is certified on the view
+pub data ComparesAlone (it : Running) (client : Client) (text : List ℕ) (found : Compared) (n : Client) : Type 0 where
+  same : ReadsSame (view client.node.durable) it → text ≡ [] → found ≡ Same → n ≡ client → ComparesAlone it client text found n
+  parts : (read : ℕ) (question : Question) → Parts (reads_here it) (reads_on (view client.node.durable) it) (Some (Conflict read question))
+      → text ≡ [] → found ≡ Differs read question → n ≡ client → ComparesAlone it client text found n
+
+-- it ends, or begins anew
+abbrev pub change_by : (number : ℕ) → Compared → ClientState → ClientState
+change_by number Same = end number
+change_by number (Differs read question) = again number
+
+abbrev pub notes_found : (number : ℕ) → Compared → Try Client Compared
+notes_found number found = Goes (NotesAlone (change_by number found)) (λ _. Answers (Some found))
+
+abbrev pub certify_alone : Option Running → Try Client Compared
+certify_alone None = Answers None
+certify_alone (Some it) = Then (YieldsAlone it.number) (λ _. Then (ComparesAlone it) (notes_found it.number))
+
+-- the one with this number is certified, and what was found is noted
+abbrev pub CertifiesAlone : (number : ℕ) → Try Client Compared
+CertifiesAlone number = Then (Asks (λ client. numbered number client.node.durable)) certify_alone
 
 -- ---- its node
 

@@ -2,9 +2,10 @@
 pub use Rattle.iot_acts.specs.Traces.{after_acts}
 pub use Rattle.iot_acts.specs.Turns.{reads_of}
 pub use Rattle.iot_changes.specs.declared.changes.Change.TheVariants.{Resolved}
-pub use Rattle.iot_client.specs.Calls.{Notes, IsHeadsRun, may_end, verdict_change, CanAct, next_acts, StepIs, second_class, is_over_if_any}
+pub use Rattle.iot_client.specs.Calls.{Notes, IsHeadsRun, may_end, may_end_if_any, verdict_change, CanAct, next_acts, StepIs, second_class}
+pub use Rattle.iot_client.specs.Calls.{is_over_if_any, live_numbered}
 pub use Rattle.iot_client.specs.Ties.{records_of, Live, state_of, place_of, disk_of, live_of, stamps_of, IsTied}
-pub use Rattle.iot_client.specs.Ties.{IsOwnRunIfAny, class_by}
+pub use Rattle.iot_client.specs.Ties.{AreOwnRuns}
 pub use Rattle.iot_client.specs.declared.client.Client.{Client}
 pub use Rattle.iot_client.specs.declared.fault.ClientFault.{ClientFault}
 pub use Rattle.iot_client.specs.declared.fault.ClientFault.TheVariants.{Stopped}
@@ -15,13 +16,13 @@ pub use Rattle.iot_exec.specs.declared.ran.Ran.{Ran}
 pub use Rattle.iot_judging.specs.Verdicts.{SpellsVerdict}
 pub use Rattle.iot_kept.specs.Changes.{CanFollow, after, HeadIs, IsSubmitted, IsByHand}
 pub use Rattle.iot_kept.specs.Standing.{StandFor, StandWith}
-pub use Rattle.iot_kept.specs.States.{Transaction, State, opening, acts_of, after_each, view}
+pub use Rattle.iot_kept.specs.States.{Transaction, State, opening, after_each, view}
 pub use Rattle.iot_lang.specs.Code.{Code}
 pub use Rattle.iot_lang.specs.Scripts.{IsScript}
 pub use Rattle.iot_limits.specs.Spelled.{IsSpelledTree}
 pub use Rattle.iot_link.specs.declared.passages.Passage.{Passage}
 pub use Rattle.iot_machine.specs.Calls.{Try, Call, At}
-pub use Rattle.iot_machine.specs.Clients.{Declared, ClientState, begin, base, so_far, act_once, repair, reach, Plan, resolution_of, Acts}
+pub use Rattle.iot_machine.specs.Clients.{Declared, ClientState, begin, so_far, act_once, repair, reach, Plan, resolution_of, Acts}
 pub use Rattle.iot_machine.specs.Clients.{hold, fetch, end, next_step, local_run, new_client, leave, plain_run, cut, item_of}
 pub use Rattle.iot_machine.specs.Events.{no_text}
 pub use Rattle.iot_machine.specs.Nodes.{Node, unopened}

@@ -1,10 +1,10 @@
 -- What the calls of a laptop answer, and what they make of the client of the machine.
 use Rattle.std.specs.Prelude.{◌≡◌, ℕ, Bool, true, false, List, [], ◌∷◌, ◌++◌, Option, Some, None, Result, Ok, Err, codes, IfOk, OnOk}
-use Rattle.std.specs.Prelude.{IsErrOf}
+use Rattle.std.specs.Prelude.{IsErrOf, option_map, slice_get, length, ◌<◌}
 use Rattle.iot_access.specs.Access.{access_of, lines_of}
 use Rattle.iot_tree.specs.declared.access.Access.{Access}
 use Rattle.iot_laptop.specs.Below.{reads_of, Nodes, State, Act, Read, Item, Stage, Transaction, IsRefresh, records_of, ClientFault, Step}
-use Rattle.iot_laptop.specs.Below.{Medium, Declared, ClientState, base, so_far, act_once, repair, reach, Plan, resolution_of, Acts}
+use Rattle.iot_laptop.specs.Below.{Medium, Declared, ClientState, so_far, act_once, repair, reach, Plan, resolution_of, Acts}
 use Rattle.iot_laptop.specs.Below.{next_step, transaction_name, acts_output, stopped_line, no_text, Node, Appends, Appended, CameIf}
 use Rattle.iot_laptop.specs.Below.{Answered, StepsFrom, PostStands, UpStands, Up, Halt, NoMemory, Over, Try, name_of, SpellsVerdict, Laptop}
 use Rattle.iot_laptop.specs.Below.{Gone, Seated, Spells, brought, nothing_held}
@@ -19,8 +19,10 @@ use Rattle.iot_wire.specs.declared.requests.Request.TheVariants.{Commit}
 use Rattle.iot_kept.specs.Changes.{IsSubmitted}
 use Rattle.iot_client.specs.Messages.{IsWholeRequest, label_of, resolved_label}
 use Rattle.iot_disk.specs.declared.faults.JournalFault.{JournalFault}
-use Rattle.iot_machine.specs.Clients.{plan_of, Next}
-use Rattle.iot_node.specs.Steps.{Ends}
+use Rattle.iot_machine.specs.Clients.{Next}
+use Rattle.iot_machine.specs.Events.{CutsOff}
+use Rattle.iot_machine.specs.Texts.{cut_line}
+use Rattle.iot_node.specs.Steps.{StepsTo, Ends}
 use Rattle.iot_tree.specs.declared.want.Want.TheVariants as wanted
 use Rattle.iot_queue.specs.declared.items.Stage.TheVariants as stages
 use Rattle.iot_resolve.specs.Plans as resolves
@@ -33,12 +35,16 @@ use Rattle.iot_machine.specs.Machine as machine
 use Rattle.iot_machine.specs.Options as options
 use Rattle.iot_machine.specs.Serving as serving
 use Rattle.iot_node.specs.declared.lines.Transaction as names
-use Rattle.iot_laptop.specs.Alone.{NotesAlone, StartsAlone}
-use Rattle.iot_laptop.specs.Laptops.{LaptopStands, ClientStands, NodeStands, state_in, stamps_in, live_in, IsFirst}
+use Rattle.iot_kept.specs.States.{numbered}
+use Rattle.iot_machine.specs.Transactions.{Compared, Same, Differs}
+use Rattle.iot_laptop.specs.Alone.{NotesAlone, StartsAlone, YieldsAndNotes, yielding}
+use Rattle.iot_laptop.specs.Laptops.{LaptopStands, ClientStands, NodeStands, Reclassed, state_in, stamps_in, live_in, IsFirst}
 use Rattle.iot_standing.specs.States.{waits_of, told_change, IsOver, head_option, head_plan, next_as}
 use Rattle.iot_laptop.specs.Messages.{verdict_of}
 use Rattle.iot_standing.specs.Scripts.{IsNamed, HasNamed, AreNamed, option_named}
-use Rattle.iot_laptop.specs.Seats.{seating}
+use Rattle.iot_laptop.specs.Seats.{seating, begun_of}
+use Rattle.iot_laptop.specs.declared.needs.Certified.{Certified}
+use Rattle.iot_laptop.specs.declared.needs.Certified.TheVariants.{Joined, Again}
 use Rattle.iot_laptop.specs.declared.needs.Need.{Need}
 use Rattle.iot_laptop.specs.declared.needs.Submitted.{Submitted}
 use Rattle.iot_laptop.specs.declared.needs.Undecided.{Undecided}
@@ -91,8 +97,8 @@ done (Ok t) = Ok tt
 done (Err halt) = Err halt
 
 -- among any scripts it stands for a client by this call: it is alive after that, or the event is over, and it may be down
-abbrev pub EndsAlone : {D : Type 0} → Medium D → List Declared → Try machine.Client (Unit {0}) → (old new : Laptop D) → (x y : List ℕ)
-    → Result (Unit {0}) Halt → Type 0
+abbrev pub EndsAlone : {D A : Type 0} → Medium D → List Declared → Try machine.Client A → (old new : Laptop D) → (x y : List ℕ)
+    → Result A Halt → Type 0
 EndsAlone medium scripts call old new x y result =
     Ends (LaptopStands medium scripts) (ClientStands medium scripts) call old new x y result
 
@@ -102,9 +108,9 @@ abbrev pub Changes : {D : Type 0} → Medium D → (ClientState → ClientState)
 Changes medium change old new x y result =
     (scripts : List Declared) → EndsAlone medium scripts (NotesAlone change) old new x y result
 
--- its next transaction begins, with each option that this one may mean
+-- its next transaction begins, with each option that this one may mean, and has this number
 abbrev pub Begins : {D : Type 0} → Medium D → Declared → OnConflict → (first : Bool) → (old new : Laptop D) → (x y : List ℕ)
-    → Result (Unit {0}) Halt → Type 0
+    → Result ℕ Halt → Type 0
 Begins medium script option first old new x y result =
     (scripts : List Declared) (on_conflict : options.OnConflict Declared) → IsNamed scripts script → HasNamed scripts on_conflict
     → option ≡ option_named on_conflict
@@ -193,52 +199,79 @@ IsNeed laptop item (needs.Verdict it) = HandsIn laptop item it
 IsNeed laptop item (needs.Tree request) = AsksAll laptop item request.items
 IsNeed laptop item needs.Decision = item.stage ≡ stages.Manual
 
--- ---- single steps
+-- ---- the transactions that run
 
--- this is the next step of each client for which it stands
-abbrev pub IsNext : {D : Type 0} → Medium D → Laptop D → Next → Type 0
-IsNext medium laptop next =
+-- the number of the one that is meant: of the one with this number, or without a number of the first one
+abbrev pub meant_in : Option ℕ → List Transaction → Option ℕ
+meant_in (Some number) running = option_map (λ it. it.number) (numbered number running)
+meant_in None running = option_map (λ it. it.number) (slice_get running 0)
+
+-- the next step of the running transaction with this number is this one, in each client for which the laptop stands, if it yields
+abbrev pub IsNext : {D : Type 0} → Medium D → (number : ℕ) → Laptop D → Next → Type 0
+IsNext medium number laptop next =
     (scripts : List Declared) (m : machine.Client) (it : clients.Running) → LaptopStands medium scripts laptop m
-    → m.node.durable.running ≡ Some it
-    → next_step m.first (base m.node.durable) it ≡ next
+    → clients.numbered number m.node.durable ≡ Some it
+    → next_step (machine.is_first it.number (yielding number m)) it ≡ next
 
 -- if it stops in a step, that was an act
-abbrev pub NextIs : {D : Type 0} → Medium D → Laptop D → Result Step Halt → Type 0
-NextIs medium laptop (Ok step) = IsNext medium laptop (next_as step)
-NextIs medium laptop (Err NoMemory) = Unit {0}
-NextIs medium laptop (Err Over) = IsNext medium laptop Acts
+abbrev pub NextIs : {D : Type 0} → Medium D → (number : ℕ) → Laptop D → Result Step Halt → Type 0
+NextIs medium number laptop (Ok step) = IsNext medium number laptop (next_as step)
+NextIs medium number laptop (Err NoMemory) = Unit {0}
+NextIs medium number laptop (Err Over) = IsNext medium number laptop Acts
 
--- the client has done an act, or stopped in that, and else is as it was
-abbrev pub TakesStep : {D : Type 0} → Medium D → (old new : Laptop D) → (x y : List ℕ) → Result Step Halt → Type 0
-TakesStep medium old new x y (Ok (steps.Acted acts ended)) = Changes medium act_once old new x y (Ok tt)
-TakesStep medium old new x y (Ok (steps.Fetch request path)) =
-    (new ≡ old) × (y ≡ x) × IsRefresh (old.place) (stamps_in old) (wanted.Path path) request × IsFirst old
-TakesStep medium old new x y (Ok over) = (new ≡ old) × (y ≡ x)
-TakesStep medium old new x y (Err halt) = Changes medium act_once old new x y (Err halt)
+-- it has yielded, and notes this change, or stops in that
+abbrev pub YieldsAndChanges : {D : Type 0} → Medium D → (number : ℕ) → (ClientState → ClientState) → (old new : Laptop D)
+    → (x y : List ℕ) → Result (Unit {0}) Halt → Type 0
+YieldsAndChanges medium number change old new x y result =
+    (scripts : List Declared) → EndsAlone medium scripts (YieldsAndNotes number change) old new x y result
+
+-- the client has done an act, or stopped in that, and else has only yielded; what is fetched is for one of first class, while none waits
+abbrev pub TakesStep : {D : Type 0} → Medium D → (number : ℕ) → (old new : Laptop D) → (x y : List ℕ) → Result Step Halt → Type 0
+TakesStep medium number old new x y (Ok (steps.Acted acts ended)) = YieldsAndChanges medium number (act_once number) old new x y (Ok tt)
+TakesStep medium number old new x y (Ok (steps.Fetch request path)) =
+    Reclassed medium (yielding number) old new × (y ≡ x) × IsRefresh (new.place) (stamps_in new) (wanted.Path path) request
+    × IsFirst number new × ((state_in new).items ≡ [])
+TakesStep medium number old new x y (Ok over) = Reclassed medium (yielding number) old new × (y ≡ x)
+TakesStep medium number old new x y (Err halt) = YieldsAndChanges medium number (act_once number) old new x y (Err halt)
 
 -- ---- the end
 
--- each client for which it stands has done all that its transaction may do
-abbrev pub IsDoneIn : {D : Type 0} → Medium D → Laptop D → Type 0
-IsDoneIn medium laptop =
-    (scripts : List Declared) (m : machine.Client) (it : clients.Running) → LaptopStands medium scripts laptop m
-    → m.node.durable.running ≡ Some it → IsOver (next_step m.first (base m.node.durable) it)
+-- the acts of one that runs, if it does
+abbrev pub acts_by : Option Transaction → List Act
+acts_by None = []
+acts_by (Some it) = it.acts
 
--- what is told of the transaction that ends is what it is in each client for which the laptop stands
-pub record IsEndOf (gone : Gone) (m : machine.Client) (it : clients.Running) : Type 0 where
+-- in each client for which it stands the transaction with this number has done all that it may do
+abbrev pub IsDoneIn : {D : Type 0} → Medium D → (number : ℕ) → Laptop D → Type 0
+IsDoneIn medium number laptop =
+    (scripts : List Declared) (m : machine.Client) (it : clients.Running) → LaptopStands medium scripts laptop m
+    → clients.numbered number m.node.durable ≡ Some it → IsOver (next_step (machine.is_first it.number m) it)
+
+-- what was found, as the machine says it
+abbrev pub compared : Certified → Compared
+compared (Joined gone) = Same
+compared (Again read question) = Differs read question
+
+abbrev pub compared_if : Result Certified Halt → Result Compared Halt
+compared_if (Ok it) = Ok (compared it)
+compared_if (Err halt) = Err halt
+
+-- what is told of the transaction that ends is what it is in each client for which the laptop stands, if it yields
+pub record IsEndOf (number : ℕ) (gone : Gone) (m : machine.Client) (it : clients.Running) : Type 0 where
   pub name : name_of gone.printed.transaction ≡ transaction_name m.name it.number
-  pub class : gone.first ≡ m.first
-  pub did : gone.printed.output ≡ acts_output (so_far (base m.node.durable) it).acts
+  pub class : gone.first ≡ machine.is_first it.number (yielding number m)
+  pub did : gone.printed.output ≡ acts_output (so_far it).acts
 
-abbrev pub IsGone : {D : Type 0} → Medium D → Laptop D → Gone → Type 0
-IsGone medium laptop gone =
+abbrev pub IsGoneIfAny : {D : Type 0} → Medium D → (number : ℕ) → Laptop D → Certified → Type 0
+IsGoneIfAny medium number laptop (Joined gone) =
     (scripts : List Declared) (m : machine.Client) (it : clients.Running) → LaptopStands medium scripts laptop m
-    → m.node.durable.running ≡ Some it → IsEndOf gone m it
+    → clients.numbered number m.node.durable ≡ Some it → IsEndOf number gone m it
+IsGoneIfAny medium number laptop (Again read question) = Unit {0}
 
 -- then one waits
-abbrev pub waits_after : {D : Type 0} → Laptop D → Result Gone Halt → Type 0
-waits_after laptop (Ok gone) = waits_of (state_in laptop).items ≡ true
-waits_after laptop (Err halt) = Unit {0}
+abbrev pub waits_after : {D : Type 0} → Laptop D → Result Certified Halt → Type 0
+waits_after laptop (Ok (Joined gone)) = waits_of (state_in laptop).items ≡ true
+waits_after laptop other = Unit {0}
 
 -- ---- verdicts
 
@@ -257,25 +290,20 @@ TakesVerdict medium reply old new x y result =
 
 -- ---- a restart
 
--- one that has just come back: what it found running has no script yet, and is only to be cut off
+-- one that has just come back: what it found running has no script, and is only to be cut off
 pub record ReturnedStands {D : Type 0} (medium : Medium D) (scripts : List Declared) (laptop : Laptop D) (m : machine.Client) : Type
     0 where
   pub name : laptop.name ≡ m.name
   pub link : laptop.link ≡ m.link
   pub alive : m.node.alive ≡ true
   pub node : NodeStands medium laptop m
-  pub live : live_in laptop ≡ None
+  pub found : begun_of (live_in laptop) ≡ []
   pub named : AreNamed scripts m.node.durable
 
 pub record Returned {D : Type 0} (medium : Medium D) (laptop : Laptop D) : Type 0 where
   pub scripts : List Declared
   pub machine : machine.Client
   pub stands : ReturnedStands medium scripts laptop machine
-
--- the name of the transaction that runs
-abbrev pub running_name : {D : Type 0} → Laptop D → Option Transaction → Option names.Transaction
-running_name laptop None = None
-running_name laptop (Some running) = Some (record { client = laptop.name; number = running.number })
 
 -- The image that it came back from decides whether the record in doubt was kept, which is said, before anything is said of what ran; or
 -- it has stopped again, which is all that is said.
@@ -286,3 +314,23 @@ pub record Came {D : Type 0} (medium : Medium D) (old : Laptop D) (x y : List �
   pub came : CameIf (seating medium old.place) medium on old.post old.name x mid m.node
   pub whole : y ≡ mid ++ rest
   pub stopped : on ≡ false → y ≡ x ++ stopped_line old.name
+
+-- all that ran is cut off, one after the other, or it stops in that
+abbrev pub CutsAll : {D : Type 0} → Medium D → List Declared → (old new : Laptop D) → (x y : List ℕ) → Type 0
+CutsAll medium scripts old new x y = StepsTo (ReturnedStands medium scripts) (ClientStands medium scripts) CutsOff old new x y tt
+
+-- the first of those that ran is cut off, and what is said of that and then cuts off the others makes the whole; or none ran, or it has
+-- stopped in that
+abbrev pub CutsFirst : {D : Type 0} → Medium D → List Declared → (old new : Laptop D) → (x y : List ℕ)
+    → Result (Option (ℕ × ℕ)) Halt → Type 0
+CutsFirst {D = D} medium scripts old new x y (Ok (Some told)) =
+    (last : Laptop D) (z : List ℕ) → CutsAll medium scripts new last (y ++ cut_line (transaction_name new.name told.0) told.1) z
+    → CutsAll medium scripts old last x z
+CutsFirst medium scripts old new x y (Ok None) = CutsAll medium scripts old new x y
+CutsFirst medium scripts old new x y (Err NoMemory) = Unit {0}
+CutsFirst medium scripts old new x y (Err Over) = CutsAll medium scripts old new x y
+
+-- if one was cut off, one less runs
+abbrev pub RunFewer : Option (ℕ × ℕ) → (old new : List Transaction) → Type 0
+RunFewer None old new = Unit {0}
+RunFewer (Some told) old new = length new < length old

@@ -1,6 +1,7 @@
 -- Which client of the machine a laptop stands for.
-use Rattle.std.specs.Prelude.{◌≡◌, ℕ, Bool, true, false, List, Option, Some, None}
+use Rattle.std.specs.Prelude.{◌≡◌, ℕ, Bool, true, false, List, [], Option, Some, None}
 use Rattle.iot_laptop.specs.Below.{Nodes, State, opening, Live, Client, Medium, Passage, Declared, new_client, unopened, Possibly, IsEmpty}
+use Rattle.iot_client.specs.Calls.{live_numbered}
 use Rattle.iot_laptop.specs.Below.{is_on, PostStands, Post, Up, Down, no_text, Laptop, Seated, Stamps, nothing_held}
 use Rattle.iot_stamp.specs.Trails.{KeepsTrail}
 use Rattle.iot_machine.specs.Machine.{break, cut_off}
@@ -22,10 +23,10 @@ abbrev pub state_by : {D : Type 0} → Post (Seated D) D → State
 state_by (Up seated) = client.state_of seated.client
 state_by other = opening
 
--- what is known of its running transaction besides
-abbrev pub live_by : {D : Type 0} → Post (Seated D) D → Option Live
+-- what is known of its running transactions besides
+abbrev pub live_by : {D : Type 0} → Post (Seated D) D → List Live
 live_by (Up seated) = client.live_of seated.client
-live_by other = None
+live_by other = []
 
 -- what a live client holds, with the server's stamps; of one that is down nothing is held
 abbrev pub stamps_by : {D : Type 0} → Post (Seated D) D → Stamps
@@ -48,7 +49,7 @@ is_alive laptop = is_on laptop.post
 abbrev pub state_in : {D : Type 0} → Laptop D → State
 state_in laptop = state_by laptop.post
 
-abbrev pub live_in : {D : Type 0} → Laptop D → Option Live
+abbrev pub live_in : {D : Type 0} → Laptop D → List Live
 live_in laptop = live_by laptop.post
 
 abbrev pub stamps_in : {D : Type 0} → Laptop D → Stamps
@@ -117,11 +118,11 @@ pub record IsLent {D : Type 0} (medium : Medium D) (laptop : Laptop D) (it : Cli
   pub live : client.live_of it ≡ live_in laptop
   pub place : client.place_of it ≡ laptop.place
   pub tied : client.IsTied medium it
-  pub begun : client.IsBegunIfAny (client.state_of it).running (client.live_of it)
+  pub begun : client.AreBegun (client.live_of it)
 
 -- a client that was declared, and never started, on a disk that counts this
 abbrev pub unopened_laptop : List ℕ → Counts → machine.Client
-unopened_laptop name counts = record { name = name; node = unopened new_client counts; link = link.opened; first = false }
+unopened_laptop name counts = record { name = name; node = unopened new_client counts; link = link.opened; first = [] }
 
 -- it is so, with an empty disk
 pub record IsUnopened {D : Type 0} (medium : Medium D) (laptop : Laptop D) : Type 0 where
@@ -129,13 +130,13 @@ pub record IsUnopened {D : Type 0} (medium : Medium D) (laptop : Laptop D) : Typ
   pub down : laptop.post ≡ Down (record { disk = disk; doubt = None })
   pub empty : IsEmpty medium disk
 
--- a transaction runs, and it is first class
+-- the transaction with this number runs, and it is first class
 abbrev pub IsFirstOf : Option Live → Type 0
 IsFirstOf None = ⊥
 IsFirstOf (Some live) = live.first ≡ true
 
-abbrev pub IsFirst : {D : Type 0} → Laptop D → Type 0
-IsFirst laptop = IsFirstOf (live_in laptop)
+abbrev pub IsFirst : {D : Type 0} → (number : ℕ) → Laptop D → Type 0
+IsFirst number laptop = IsFirstOf (live_numbered number (state_in laptop).running (live_in laptop))
 
 -- the tree that each client sees for which it stands
 abbrev pub IsView : {D : Type 0} → Medium D → Nodes → Laptop D → Type 0
@@ -150,11 +151,11 @@ SamePlace old new = new.place ≡ old.place
 
 -- after an exchange that got so far
 abbrev pub after_passage : Passage → machine.Client → machine.Client
-after_passage passages.Away m = record m { first = false }
+after_passage passages.Away m = record m { first = [] }
 after_passage passages.Both m = m
 after_passage lost m = break m
 
--- its link is another now, and what runs is first class or not
+-- its link is another now, and each that runs is first class or not
 pub record Relinked {D : Type 0} (medium : Medium D) (change : machine.Client → machine.Client)
     (old new : Laptop D) : Type 0 where
   pub place : SamePlace old new
@@ -163,8 +164,8 @@ pub record Relinked {D : Type 0} (medium : Medium D) (change : machine.Client �
   pub stands : (scripts : List Declared) (m : machine.Client) → LaptopStands medium scripts old m
       → LaptopStands medium scripts new (change m)
 
--- what runs is second class now
-pub record IsSecondNow {D : Type 0} (medium : Medium D) (old new : Laptop D) : Type 0 where
+-- nothing but the classes of those that run is another now
+pub record Reclassed {D : Type 0} (medium : Medium D) (change : machine.Client → machine.Client) (old new : Laptop D) : Type 0 where
   pub place : SamePlace old new
   pub state : state_in new ≡ state_in old
   pub stamps : stamps_in new ≡ stamps_in old
@@ -172,9 +173,13 @@ pub record IsSecondNow {D : Type 0} (medium : Medium D) (old new : Laptop D) : T
   pub disk : disk_in new ≡ disk_in old
   pub alive : is_alive new ≡ is_alive old
   pub stands : (scripts : List Declared) (m : machine.Client) → LaptopStands medium scripts old m
-      → LaptopStands medium scripts new (record m { first = false })
+      → LaptopStands medium scripts new (change m)
 
--- its link is not up, and what runs is second class
+-- all that run are second class now
+abbrev pub all_second : machine.Client → machine.Client
+all_second m = record m { first = [] }
+
+-- its link is not up, and all that run are second class
 pub record IsCutLink {D : Type 0} (medium : Medium D) (old new : Laptop D) : Type 0 where
   pub place : SamePlace old new
   pub name : new.name ≡ old.name

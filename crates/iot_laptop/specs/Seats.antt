@@ -1,5 +1,5 @@
 -- For which state of the machine a client stands as the keeper of a node, and the bytes of a disk.
-use Rattle.std.specs.Prelude.{◌≡◌, ℕ, List, Option, None}
+use Rattle.std.specs.Prelude.{◌≡◌, ℕ, List, [], Option, None, filter, is_some}
 use Rattle.iot_laptop.specs.Below.{Live, state_of, place_of, disk_of, records_of, live_of, stamps_of, Stamps, IsTied, Medium, State}
 use Rattle.iot_laptop.specs.Below.{StandWith, ClientState, Keeping, Seated}
 use Rattle.iot_standing.specs.Kept.{StateKept}
@@ -25,14 +25,17 @@ seating medium place = record {
   disk = λ seated. disk_of seated.client;
 }
 
--- what no disk keeps: the script of what runs and its class, and the stamps that a server gave
+-- what no disk keeps: of those that run and were begun since the start, the script and the class; and the stamps that a server gave
 pub record Besides : Type 0 where
-  pub live : Option Live
+  pub begun : List Live
   pub lent : Option Stamps
 
+abbrev pub begun_of : List Live → List Live
+begun_of lives = filter (λ live. is_some live.code) lives
+
 abbrev pub besides : {D : Type 0} → Seated D → Besides
-besides seated = record { live = live_of seated.client; lent = lent_stamps (stamps_of seated.client) }
+besides seated = record { begun = begun_of (live_of seated.client); lent = lent_stamps (stamps_of seated.client) }
 
 -- what a client has of that after a start
 abbrev pub none_besides : Besides
-none_besides = record { live = None; lent = None }
+none_besides = record { begun = []; lent = None }

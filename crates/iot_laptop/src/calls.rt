@@ -1,17 +1,20 @@
 //! The calls of a client that append a record. It is alive before each; if its disk fails in one, it has stopped.
-ghost use Rattle.std.specs.Prelude.{◌≡◌, ◌≤◌, List, true, false, [], None, Some, IfOk, IfErr, OnOk, IsErrOf, is_some};
-ghost use Rattle.iot_laptop.specs.Below.{may_end, HeadIs, IsSubmitted, IsByHand, acts_of, IsScript, Declared, Plan, hold, fetch, end};
-ghost use Rattle.iot_laptop.specs.Below.{leave, acts_output, KeepsDisk, Nodes, IsWhole, nothing_held};
+ghost use Rattle.std.specs.Prelude.{◌≡◌, ◌≤◌, ◌<◌, length, List, true, false, [], Some, IfOk, IfErr, OnOk, IsErrOf, IsSome};
+ghost use Rattle.iot_laptop.specs.Below.{may_end_if_any, live_numbered, HeadIs, IsSubmitted, IsByHand, IsScript, Declared, Plan, hold};
+ghost use Rattle.iot_laptop.specs.Below.{fetch, leave, acts_output, KeepsDisk, Nodes, IsWhole, nothing_held};
 ghost use Rattle.iot_client.specs.Faults.{MayFail};
 ghost use Rattle.iot_queue.specs.declared.items.Stage.TheVariants.{Conflict as in_conflict};
-ghost use Rattle.iot_laptop.specs.Calls.{appended, done};
+ghost use Rattle.iot_machine.specs.Clients.{most_running};
+ghost use Rattle.iot_kept.specs.States.{numbered};
+ghost use Rattle.iot_laptop.specs.Alone.{CertifiesAlone};
+ghost use Rattle.iot_laptop.specs.Calls.{appended, acts_by, compared_if, done};
 ghost use Rattle.iot_laptop.specs.Messages.{BringsTree, SpellsTree, IsVerdict};
 
 use crate::laptop::Laptop;
-use crate::needs::Gone;
+use crate::needs::{Certified, Gone};
 use crate::texts::output_of;
 use crate::verdict::Told;
-use iot_client::{ClientFault, Step};
+use iot_client::{ClientFault, Ended, Step};
 use iot_disk::{Disk, JournalFault};
 use iot_lang::Script;
 use iot_node::{Doubt, Halt, Post, Printed};
@@ -22,20 +25,21 @@ use std::rc::Rc;
 
 impl<D: Disk> Laptop<D> {
     ghost use Rattle.iot_laptop.specs.Laptops.{Stands, SamePlace, IsFirst, KeepsTrails, is_alive, state_in, stamps_in, live_in};
-    ghost use Rattle.iot_standing.specs.States.{IsFree};
+    ghost use Rattle.iot_laptop.specs.Laptops.{LaptopStands, ClientStands};
     ghost use Rattle.iot_laptop.specs.Laptops.{disk_in};
-    ghost use Rattle.iot_laptop.specs.Calls.{Changes, Begins, Repairs, Plans, Resolves, NextIs, TakesStep, IsDoneIn, IsGone, waits_after};
+    ghost use Rattle.iot_laptop.specs.Calls.{Changes, EndsAlone, Begins, Repairs, Plans, Resolves, NextIs, TakesStep, IsDoneIn};
+    ghost use Rattle.iot_laptop.specs.Calls.{IsGoneIfAny, waits_after};
     ghost use Rattle.iot_laptop.specs.Calls.{IsTold, TakesVerdict, TakesStamps, UnlessNoMemory, GoesOn, head_reads};
 
-    /// Holds what the reply brings.
+    /// Holds what the reply brings. What runs goes on.
     pub fn take(&mut self, alloc: Global, reply: &[u8], out: &mut Text) -> Result<(), Halt>
         requires stands { Stands D.medium self.old }
-        requires idle { (state_in self.old).running ≡ None }
         requires none { (state_in self.old).items ≡ [] }
         requires brings { BringsTree (stamps_in self.old) reply.now }
         ensures does { (t : Nodes) → SpellsTree (stamps_in self.old) reply.now t
             → Changes D.medium (hold t) self.old self.new out.old out.new result }
-        ensures free { OnOk result (IsFree (state_in self.new)) }
+        ensures none { OnOk result ((state_in self.new).items ≡ []) }
+        ensures running { OnOk result ((state_in self.new).running ≡ (state_in self.old).running) }
         ensures stamps { TakesStamps reply.now self.old self.new result }
         ensures place { SamePlace self.old self.new }
         ensures disk { KeepsDisk D.medium (disk_in self.old) (disk_in self.new) }
@@ -48,20 +52,27 @@ impl<D: Disk> Laptop<D> {
         self.goes_on(alloc, answer, count, out)
     }
 
-    /// Holds what the reply brings for the transaction that runs, which begins anew.
-    pub fn fetched(&mut self, alloc: Global, reply: &[u8], out: &mut Text) -> Result<(), Halt>
+    /// Holds what the reply brings for the transaction with this number, which begins anew.
+    pub fn fetched(
+        &mut self,
+        alloc: Global,
+        number: u64,
+        reply: &[u8],
+        out: &mut Text,
+    ) -> Result<(), Halt>
         requires stands { Stands D.medium self.old }
-        requires first { IsFirst self.old }
+        requires first { IsFirst number self.old }
+        requires none { (state_in self.old).items ≡ [] }
         requires brings { BringsTree (stamps_in self.old) reply.now }
         ensures does { (t : Nodes) → SpellsTree (stamps_in self.old) reply.now t
-            → Changes D.medium (fetch t) self.old self.new out.old out.new result }
+            → Changes D.medium (fetch number t) self.old self.new out.old out.new result }
         ensures stamps { TakesStamps reply.now self.old self.new result }
         ensures place { SamePlace self.old self.new }
         ensures disk { KeepsDisk D.medium (disk_in self.old) (disk_in self.new) }
     {
         let count = self.records();
         let answer = match &mut self.post {
-            Post::Up(seated) => seated.client.fetched(alloc, reply),
+            Post::Up(seated) => seated.client.fetched(alloc, number, reply),
             Post::Down(_) | Post::Between => unreachable!(),
         };
         self.goes_on(alloc, answer, count, out)
@@ -78,11 +89,10 @@ impl<D: Disk> Laptop<D> {
         out: &mut Text,
     ) -> Result<u64, Halt>
         requires stands { Stands D.medium self.old }
-        requires idle { (state_in self.old).running ≡ None }
-        requires alone { first ≡ true → (state_in self.old).items ≡ [] }
+        requires room { length (state_in self.old).running < most_running }
         requires script { IsScript script.value }
         ensures does { Begins D.medium (record { name = name.now; code = script.value }) option first
-            self.old self.new out.old out.new (done result) }
+            self.old self.new out.old out.new result }
         ensures trails { UnlessNoMemory (done result) (KeepsTrails self.old self.new) }
         ensures place { SamePlace self.old self.new }
         ensures disk { KeepsDisk D.medium (disk_in self.old) (disk_in self.new) }
@@ -95,61 +105,63 @@ impl<D: Disk> Laptop<D> {
         self.goes_on(alloc, answer, count, out)
     }
 
-    /// Does the next act of the transaction that runs, or gives why none is done.
-    pub fn step(&mut self, alloc: Global, out: &mut Text) -> Result<Step, Halt>
+    /// Does the next act of the transaction with this number, or gives why none is done. It is second class if transactions wait.
+    pub fn step(&mut self, alloc: Global, number: u64, out: &mut Text) -> Result<Step, Halt>
         requires stands { Stands D.medium self.old }
         requires place { self.old.place ≤ 7 }
-        requires runs { is_some (state_in self.old).running ≡ true }
-        ensures next { NextIs D.medium self.old result }
-        ensures does { TakesStep D.medium self.old self.new out.old out.new result }
+        requires runs { IsSome (numbered number (state_in self.old).running) }
+        ensures next { NextIs D.medium number self.old result }
+        ensures does { TakesStep D.medium number self.old self.new out.old out.new result }
         ensures trails { UnlessNoMemory (done result) (KeepsTrails self.old self.new) }
         ensures place { SamePlace self.old self.new }
         ensures disk { KeepsDisk D.medium (disk_in self.old) (disk_in self.new) }
     {
         let count = self.records();
         let answer = match &mut self.post {
-            Post::Up(seated) => seated.client.step(alloc),
+            Post::Up(seated) => seated.client.step(alloc, number),
             Post::Down(_) | Post::Between => unreachable!(),
         };
         self.goes_on(alloc, answer, count, out)
     }
 
-    /// Lets the transaction that runs wait, whose script has ended or may do no more acts, and tells what it was.
-    pub fn end(&mut self, alloc: Global, out: &mut Text) -> Result<Gone, Halt>
+    /// Ends the transaction with this number, whose script has ended or may do no more acts: it waits, or starts again on the view.
+    pub fn end(&mut self, alloc: Global, number: u64, out: &mut Text) -> Result<Certified, Halt>
         requires stands { Stands D.medium self.old }
-        requires over { may_end (state_in self.old) (live_in self.old) ≡ true }
-        ensures over { IsDoneIn D.medium self.old }
-        ensures does { Changes D.medium end self.old self.new out.old out.new (done result) }
-        ensures gone { IfOk result (IsGone D.medium self.old) }
+        requires over { may_end_if_any (numbered number (state_in self.old).running)
+            (live_numbered number (state_in self.old).running (live_in self.old)) ≡ true }
+        ensures over { IsDoneIn D.medium number self.old }
+        ensures does { (scripts : List Declared)
+            → EndsAlone D.medium scripts (CertifiesAlone number) self.old self.new out.old out.new (compared_if result) }
+        ensures gone { IfOk result (IsGoneIfAny D.medium number self.old) }
         ensures waits { waits_after self.new result }
         ensures trails { UnlessNoMemory (done result) (KeepsTrails self.old self.new) }
         ensures place { SamePlace self.old self.new }
         ensures disk { KeepsDisk D.medium (disk_in self.old) (disk_in self.new) }
     {
-        let output = self.output(alloc)?;
+        let output = self.output(alloc, number)?;
         let count = self.records();
         let answer = match &mut self.post {
-            Post::Up(seated) => seated.client.end(alloc),
+            Post::Up(seated) => seated.client.end(alloc, number),
             Post::Down(_) | Post::Between => unreachable!(),
         };
-        match self.goes_on(alloc, answer, count, out) {
-            Ok(ended) => Ok(Gone {
+        match self.goes_on(alloc, answer, count, out)? {
+            Ended::Joined { tid, first } => Ok(Certified::Joined(Gone {
                 printed: Printed {
-                    transaction: self.transaction(ended.tid),
+                    transaction: self.transaction(tid),
                     output,
                 },
-                first: ended.first,
-            }),
-            Err(halt) => Err(halt),
+                first,
+            })),
+            Ended::Again { read, question } => Ok(Certified::Again { read, question }),
         }
     }
 
-    /// What the transaction that runs has printed.
-    fn output(&self, alloc: Global) -> Result<Text, NoMemory>
+    /// What the transaction with this number has printed.
+    fn output(&self, alloc: Global, number: u64) -> Result<Text, NoMemory>
         requires { Stands D.medium self.now }
-        ensures { IfOk result (λ output. output ≡ acts_output (acts_of (state_in self.now).running)) }
+        ensures { IfOk result (λ output. output ≡ acts_output (acts_by (numbered number (state_in self.now).running))) }
     {
-        match self.running() {
+        match self.run(number) {
             Some(running) => output_of(alloc, running.acts.as_slice()),
             None => Ok(Text::new(alloc)),
         }

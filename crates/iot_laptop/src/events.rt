@@ -1,6 +1,6 @@
 //! The events of a client alone: its link, and what may befall its node.
 ghost use Rattle.std.specs.Prelude.{◌≡◌, List, true, Some, IsSome, IfOk, IfErr, OnOk};
-ghost use Rattle.iot_laptop.specs.Below.{Declared, Refines, KeepsDisk, is_fallen, StepsTo};
+ghost use Rattle.iot_laptop.specs.Below.{Declared, Refines, KeepsDisk, is_fallen};
 ghost use Rattle.iot_machine.specs.Machine as machine;
 ghost use Rattle.iot_text.specs.Texts.{Extends};
 
@@ -8,15 +8,15 @@ use crate::laptop::Laptop;
 use crate::texts::{say_cut, say_lose, say_named};
 use iot_disk::{Disk, Pick};
 use iot_link::Loss;
-use iot_node::{Halt, Post, Transaction, say};
+use iot_node::{Halt, Post, say};
 use iot_text::{NoMemory, Text};
 use std::alloc::Global;
 
 impl<D: Disk> Laptop<D> {
-    ghost use Rattle.iot_machine.specs.Events.{Connects, Disconnects, Loses, CrashesClient, RestartsClient, ArmsClient, CutsOff};
+    ghost use Rattle.iot_machine.specs.Events.{Connects, Disconnects, Loses, CrashesClient, RestartsClient, ArmsClient};
     ghost use Rattle.iot_laptop.specs.Alone.{OpensClient};
     ghost use Rattle.iot_laptop.specs.Laptops.{ClientStands, StandsAnyhow, IsUnopened, SamePlace, KeepsTrails, is_alive, state_in, disk_in};
-    ghost use Rattle.iot_laptop.specs.Calls.{ReturnedStands, Returned, running_name, Came};
+    ghost use Rattle.iot_laptop.specs.Calls.{Returned, Came, CutsAll, CutsFirst, RunFewer, UnlessNoMemory, done};
 
     // ---- its link
 
@@ -86,8 +86,8 @@ impl<D: Disk> Laptop<D> {
         self.post.crash(self.name.as_bytes(), out)
     }
 
-    /// Comes back from one of the images that its disk may have, and cuts off what ran, if something did: that waits from now on with
-    /// the acts that it has done. Or it stops again, which is said.
+    /// Comes back from one of the images that its disk may have, and cuts off what ran: each waits from now on with as many of
+    /// its first acts as hold on the view. Or it stops again, which is said.
     pub fn restart(&mut self, alloc: Global, out: &mut Text) -> Result<(), NoMemory>
         requires { StandsAnyhow D.medium self.old }
         ensures step { OnOk result ((scripts : List Declared)
@@ -113,46 +113,52 @@ impl<D: Disk> Laptop<D> {
         self.cut_off(alloc, out)
     }
 
-    /// Cuts off what ran when it lost its memory, if something did. Or it stops in that, which is said.
+    /// Cuts off what ran when it lost its memory, one after the other. Or it stops in that, which is said.
     fn cut_off(&mut self, alloc: Global, out: &mut Text) -> Result<(), NoMemory>
         requires { Returned D.medium self.old }
-        ensures cuts { OnOk result ((scripts : List Declared)
-            → StepsTo (ReturnedStands D.medium scripts) (ClientStands D.medium scripts) CutsOff self.old self.new out.old out.new tt) }
+        ensures cuts { OnOk result ((scripts : List Declared) → CutsAll D.medium scripts self.old self.new out.old out.new) }
         ensures trails { OnOk result (KeepsTrails self.old self.new) }
         ensures place { SamePlace self.old self.new }
         ensures disk { KeepsDisk D.medium (disk_in self.old) (disk_in self.new) }
     {
-        let Some(transaction) = self.found() else {
-            return Ok(());
-        };
-        let count = self.records();
-        let answer = match &mut self.post {
-            Post::Up(seated) => seated.client.cut(alloc),
-            Post::Down(_) | Post::Between => unreachable!(),
-        };
-        match self.goes_on(alloc, answer, count, out) {
-            Ok(Some(acts)) => {
-                say_cut(&transaction, acts, out)?;
-                Ok(())
-            }
-            Ok(None) => unreachable!(),
+        match self.cuts(alloc, out) {
+            Ok(()) => Ok(()),
             Err(Halt::Over) => Ok(()),
             Err(Halt::NoMemory) => Err(NoMemory),
         }
     }
 
-    /// The name of the transaction that it found running when it came back, if it found one.
-    fn found(&self) -> Option<Transaction>
-        requires { Returned D.medium self.now }
-        ensures { result ≡ running_name self.now (state_in self.now).running }
+    /// Cuts off what ran, and says so of each.
+    fn cuts(&mut self, alloc: Global, out: &mut Text) -> Result<(), Halt>
+        requires { Returned D.medium self.old }
+        ensures cuts { UnlessNoMemory result ((scripts : List Declared)
+            → CutsAll D.medium scripts self.old self.new out.old out.new) }
+        ensures trails { UnlessNoMemory result (KeepsTrails self.old self.new) }
+        ensures place { SamePlace self.old self.new }
+        ensures disk { KeepsDisk D.medium (disk_in self.old) (disk_in self.new) }
     {
-        match &self.post {
-            Post::Up(seated) => match seated.client.running() {
-                Some(running) => Some(self.transaction(running.tid)),
-                None => None,
-            },
-            Post::Down(_) | Post::Between => unreachable!(),
+        'cuts: while let Some((number, acts)) = self.cut(alloc, out)? {
+            say_cut(&self.transaction(number), acts, out)?;
         }
+        Ok(())
+    }
+
+    /// Cuts off the one that has the least number, if one runs, and tells that and how many acts it keeps.
+    fn cut(&mut self, alloc: Global, out: &mut Text) -> Result<Option<(u64, u64)>, Halt>
+        requires { Returned D.medium self.old }
+        ensures cuts { (scripts : List Declared) → CutsFirst D.medium scripts self.old self.new out.old out.new result }
+        ensures returned { OnOk result (Returned D.medium self.new) }
+        ensures fewer { IfOk result (λ told. RunFewer told (state_in self.old).running (state_in self.new).running) }
+        ensures trails { UnlessNoMemory (done result) (KeepsTrails self.old self.new) }
+        ensures place { SamePlace self.old self.new }
+        ensures disk { KeepsDisk D.medium (disk_in self.old) (disk_in self.new) }
+    {
+        let count = self.records();
+        let answer = match &mut self.post {
+            Post::Up(seated) => seated.client.cut(alloc),
+            Post::Down(_) | Post::Between => unreachable!(),
+        };
+        self.goes_on(alloc, answer, count, out)
     }
 
     /// Makes a later call of its disk fail, and says so.

@@ -1,13 +1,18 @@
 //! A client that was declared, by its name and its place, and its link with the server.
-ghost use Rattle.std.specs.Prelude.{◌≡◌, ◌≤◌, ◌*◌, ◌&&◌, not, true, [], List, None, Some, IfOk, IfSome, is_some, length};
+ghost use Rattle.std.specs.Prelude.{◌≡◌, ◌≤◌, ◌*◌, ◌&&◌, not, nat_lt, true, [], List, None, Some, IfOk, IfSome, length, map, option_map};
 ghost use Rattle.std.specs.Option.{option_copied};
-ghost use Rattle.iot_laptop.specs.Below.{IsRefresh, may_end, is_over_if_any, class_by, Declared, IsEmpty, counts_on};
+ghost use Rattle.iot_laptop.specs.Below.{IsRefresh, may_end_if_any, is_over_if_any, live_numbered, Declared, IsEmpty, counts_on};
 ghost use Rattle.iot_client.specs.declared.fault.ClientFault.TheVariants.{NoMemory as no_memory};
-ghost use Rattle.iot_kept.specs.Memory.{transaction_of, class_of};
+ghost use Rattle.iot_machine.specs.Clients.{most_running};
+ghost use Rattle.iot_kept.specs.Memory.{transaction, transactions, classes_of};
+ghost use Rattle.iot_kept.specs.States.{numbered};
+ghost use Rattle.iot_machine.specs.Transactions.{has_any};
+ghost use Rattle.iot_laptop.specs.Calls.{meant_in};
 
 use crate::seated::Seated;
 use iot_client::{Client, ClientFault, Running};
 use iot_disk::Disk;
+use iot_kept::RUN_LIMIT;
 use iot_link::Link;
 use iot_node::{Fallen, Post, Transaction};
 use iot_text::{Name, NoMemory};
@@ -92,9 +97,17 @@ impl<D: Disk> Laptop<D> {
     /// Whether a transaction runs.
     pub fn runs(&self) -> bool
         requires { Stands D.medium self.now }
-        ensures { result ≡ is_some (state_in self.now).running }
+        ensures { result ≡ has_any (state_in self.now).running }
     {
-        self.running().is_some()
+        !self.running().is_empty()
+    }
+
+    /// Whether as many transactions run as may.
+    pub fn is_full(&self) -> bool
+        requires { Stands D.medium self.now }
+        ensures { result ≡ not (nat_lt (length (state_in self.now).running) most_running) }
+    {
+        self.running().len() >= RUN_LIMIT
     }
 
     /// Whether transactions wait.
@@ -105,35 +118,58 @@ impl<D: Disk> Laptop<D> {
         self.client().queue().head().is_some()
     }
 
-    /// Whether the transaction that runs may end.
-    pub fn may_end(&self) -> bool
+    /// Whether the transaction with this number runs and may end.
+    pub fn may_end(&self, number: u64) -> bool
         requires { Stands D.medium self.now }
-        ensures { result ≡ may_end (state_in self.now) (live_in self.now) }
+        ensures { result ≡ may_end_if_any (numbered number (state_in self.now).running)
+            (live_numbered number (state_in self.now).running (live_in self.now)) }
     {
-        if self.at_end() {
+        if self.at_end(number) {
             return true;
         }
-        match self.running() {
+        match self.run(number) {
             Some(running) => running.acts.len() as u64 >= ACT_LIMIT,
             None => false,
         }
     }
 
-    /// The transaction that runs, if one does.
-    pub fn running(&self) -> Option<&Running>
+    /// The transactions that run, in the order of their numbers.
+    pub fn running(&self) -> &[Running]
         requires { Stands D.medium self.now }
-        ensures running { transaction_of (option_copied result) ≡ (state_in self.now).running }
-        ensures class { class_of (option_copied result) ≡ class_by (state_in self.now).running (live_in self.now) }
+        ensures running { transactions result.now ≡ (state_in self.now).running }
+        ensures classes { classes_of result.now ≡ map (λ live. live.first) (live_in self.now) }
     {
         self.client().running()
     }
 
-    /// Whether a transaction runs whose script has ended.
-    pub fn at_end(&self) -> bool
+    /// The running transaction with this number, if it runs.
+    pub fn run(&self, number: u64) -> Option<&Running>
         requires { Stands D.medium self.now }
-        ensures { result ≡ is_over_if_any (state_in self.now) (live_in self.now) }
+        ensures running { option_map transaction (option_copied result) ≡ numbered number (state_in self.now).running }
+        ensures class { option_map (λ it. it.first) (option_copied result)
+            ≡ option_map (λ live. live.first) (live_numbered number (state_in self.now).running (live_in self.now)) }
     {
-        self.client().at_end()
+        self.running().iter().find(|it| it.tid == number)
+    }
+
+    /// The number of the running transaction that is meant: this one, if it runs; without a number, the least one.
+    pub fn meant(&self, which: Option<u64>) -> Option<u64>
+        requires { Stands D.medium self.now }
+        ensures { result ≡ meant_in which (state_in self.now).running }
+    {
+        match which {
+            Some(number) => self.run(number).map(|it| it.tid),
+            None => self.running().first().map(|it| it.tid),
+        }
+    }
+
+    /// Whether the transaction with this number runs, and its script has ended.
+    pub fn at_end(&self, number: u64) -> bool
+        requires { Stands D.medium self.now }
+        ensures { result ≡ is_over_if_any (numbered number (state_in self.now).running)
+            (live_numbered number (state_in self.now).running (live_in self.now)) }
+    {
+        self.client().at_end(number)
     }
 
     /// The name of its transaction of this number.
@@ -169,7 +205,7 @@ impl<D: Disk> Laptop<D> {
     /// Whether it is alive, its link is up, and nothing waits or runs.
     pub fn is_drained(&self) -> bool
         requires { StandsAnyhow D.medium self.now }
-        ensures { result ≡ is_alive self.now && not (waits_of (state_in self.now).items) && not (is_some (state_in self.now).running)
+        ensures { result ≡ is_alive self.now && not (waits_of (state_in self.now).items) && not (has_any (state_in self.now).running)
             && self.now.link.up }
     {
         self.is_alive() && !self.waits() && !self.runs() && self.link.is_up()
@@ -189,7 +225,6 @@ impl<D: Disk> Laptop<D> {
     pub fn ask(&self, alloc: Global, want: &Want) -> Result<Vec<u8>, NoMemory>
         requires stands { Stands D.medium self.now }
         requires place { self.now.place ≤ 7 }
-        requires idle { (state_in self.now).running ≡ None }
         requires none { (state_in self.now).items ≡ [] }
         ensures { IfOk result (λ request. IsRefresh self.now.place (stamps_in self.now) want.now request.items) }
     {

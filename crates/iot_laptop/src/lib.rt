@@ -12,6 +12,6 @@ mod texts;
 mod verdict;
 
 pub use laptop::Laptop;
-pub use needs::{Gone, Need, Submitted, Undecided};
+pub use needs::{Certified, Gone, Need, Submitted, Undecided};
 pub use seated::Seated;
 pub use verdict::{Told, Verdict};

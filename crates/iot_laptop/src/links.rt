@@ -10,7 +10,7 @@ use iot_node::Post;
 
 impl<D: Disk> Laptop<D> {
     ghost use Rattle.iot_machine.specs.Machine.{break};
-    ghost use Rattle.iot_laptop.specs.Laptops.{Stands, StandsAnyhow, IsCutLink, Relinked, IsSecondNow, after_passage, disk_in};
+    ghost use Rattle.iot_laptop.specs.Laptops.{Stands, StandsAnyhow, IsCutLink, Relinked, Reclassed, all_second, after_passage, disk_in};
 
     /// Whether its link is up.
     pub fn is_connected(&self) -> bool
@@ -19,7 +19,7 @@ impl<D: Disk> Laptop<D> {
         self.link.is_up()
     }
 
-    /// Makes its link not up, and what runs second class, if it is alive.
+    /// Makes its link not up, and all that run second class, if it is alive.
     pub(crate) fn cut_link(&mut self)
         requires { StandsAnyhow D.medium self.old }
         ensures { IsCutLink D.medium self.old self.new }
@@ -57,10 +57,10 @@ impl<D: Disk> Laptop<D> {
         self.second();
     }
 
-    /// What runs is second class from now on.
+    /// All that run are second class from now on.
     fn second(&mut self)
         requires { Stands D.medium self.old }
-        ensures { IsSecondNow D.medium self.old self.new }
+        ensures { Reclassed D.medium all_second self.old self.new }
     {
         match &mut self.post {
             Post::Up(seated) => seated.client.second(),

@@ -1,12 +1,22 @@
 //! What a client needs of the server for a transaction, and what is said of one.
 use iot_node::Printed;
-use iot_tree::Way;
+use iot_tree::{Question, Way};
 
 /// A transaction that has ended, and whether it is first class.
 #[derive(Drop)]
 pub struct Gone {
     pub printed: Printed,
     pub first: bool,
+}
+
+/// What became of a transaction that was to end.
+#[derive(Drop)]
+pub enum Certified {
+    /// It waits.
+    Joined(Gone),
+
+    /// A read of it, counted from 1, which asked this, has another answer on the view by now, and it starts again there.
+    Again { read: u64, question: Question },
 }
 
 /// A transaction that is submitted: the request, in bytes, what it printed, and the way on which it comes.

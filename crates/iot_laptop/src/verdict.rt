@@ -1,12 +1,13 @@
 //! What a client is told of a transaction that it submitted.
-ghost use Rattle.std.specs.Prelude.{◌≡◌, ◌-◌, ◌<◌, ◌≤◌, Some, IfOk, length, slice_get};
-ghost use Rattle.iot_laptop.specs.Below.{reads_of, Read, SpellsVerdict};
+ghost use Rattle.std.specs.Prelude.{◌≡◌, IfOk};
+ghost use Rattle.iot_laptop.specs.Below.{reads_of, SpellsVerdict};
 ghost use Rattle.iot_machine.specs.Serving as serving;
 ghost use Rattle.iot_laptop.specs.Messages.{IsVerdict, verdict_of};
 
+use iot_client::question_at;
 use iot_codec::CodecFault;
 use iot_text::NoMemory;
-use iot_tree::{Act, Duplicate, OnConflict, Question};
+use iot_tree::{Act, OnConflict, Question};
 use iot_wire::{Reply, read_reply};
 use std::alloc::Global;
 
@@ -44,21 +45,4 @@ pub(crate) fn verdict_in(alloc: Global, acts: &[Act], reply: &[u8]) -> Result<Ve
         Err(CodecFault::NoMemory) => Err(NoMemory),
         Err(CodecFault::Malformed { .. }) => unreachable!(),
     }
-}
-
-/// What the read at this place, counted from 1, asked.
-fn question_at(alloc: Global, acts: &[Act], place: u64) -> Result<Question, NoMemory>
-    requires first { 1 ≤ place }
-    requires within { place - 1 < length (reads_of acts.now) }
-    ensures { IfOk result (λ question. (read : Read) → slice_get (reads_of acts.now) (place - 1) ≡ Some read → question ≡ read.question) }
-{
-    let mut left = place - 1;
-    'acts: for act in acts {
-        let reads = act.reads.as_slice();
-        if left < reads.len() as u64 {
-            return reads[left as usize].question.copy(alloc);
-        }
-        left -= reads.len() as u64;
-    }
-    unreachable!()
 }

@@ -1,3 +1,4 @@
+pub mod RunsLaws
 pub mod StatesLaws
 pub mod KeptLaws
 pub mod ScriptsLaws

@@ -2,8 +2,8 @@
 use Rattle.std.proofs.lemmas.List.Folds.{find-append}
 use Rattle.std.proofs.Common.{List, [], ◌∷◌, ◌++◌, Option, Some, None, IfSome, refl, bytes_eq}
 use Rattle.iot_machine.proofs.FollowsLaws.{all_as}
-use Rattle.iot_machine.specs.Clients.{Declared, Running, ClientState}
-use Rattle.iot_standing.specs.Scripts.{IsNamed, HasNamed, ItemIsNamed, RunIsNamedIfAny, AreNamed}
+use Rattle.iot_machine.specs.Clients.{Declared, ClientState}
+use Rattle.iot_standing.specs.Scripts.{IsNamed, HasNamed, ItemIsNamed, RunIsNamed, AreNamed}
 use Rattle.iot_machine.specs.Options.{OnConflict}
 use Rattle.iot_machine.specs.Options as options
 
@@ -15,17 +15,16 @@ module _ (scripts : List Declared) (one : Declared) where
   has_more (options.Resolver script) named = named_more script named
   has_more option named = tt
 
-  running_more : (it : Option Running) → RunIsNamedIfAny scripts it → RunIsNamedIfAny (scripts ++ one ∷ []) it
-  running_more None named = tt
-  running_more (Some it) named = record { script = named_more it.script named.script; resolver = has_more it.option named.resolver }
-
   pub state_more : (m : ClientState) → AreNamed scripts m → AreNamed (scripts ++ one ∷ []) m
   state_more m named = record {
     items = all_as (ItemIsNamed scripts) (ItemIsNamed (scripts ++ one ∷ [])) m.items (λ item it. record {
       script = named_more item.script it.script;
       resolver = has_more item.option it.resolver;
     }) named.items;
-    running = running_more m.running named.running;
+    running = all_as (RunIsNamed scripts) (RunIsNamed (scripts ++ one ∷ [])) m.running (λ run it. record {
+      script = named_more run.script it.script;
+      resolver = has_more run.option it.resolver;
+    }) named.running;
   }
 
   pub if_more : (o : Option ClientState) → IfSome o (AreNamed scripts) → IfSome o (AreNamed (scripts ++ one ∷ []))

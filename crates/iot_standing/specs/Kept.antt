@@ -1,5 +1,5 @@
 -- What a client keeps, as it is on its disk, beside what a client of the machine keeps.
-use Rattle.std.specs.Prelude.{◌≡◌, ◌≤◌, List, [], ◌∷◌, length, Option, Some, None}
+use Rattle.std.specs.Prelude.{◌≡◌, ◌≤◌, List, [], ◌∷◌, length}
 use Rattle.std.specs.FinMap.{entries}
 use Rattle.std.specs.List.{AllByRecursion}
 use Rattle.iot_access.specs.Access.{access_of, no_access}
@@ -13,8 +13,8 @@ use Rattle.iot_limits.specs.Spelled.{IsSpelledTree, AreSpelledFiles}
 use Rattle.iot_queue.specs.declared.items.Item.{Item}
 use Rattle.iot_queue.specs.declared.items.Resolution.{Resolution}
 use Rattle.iot_queue.specs.declared.items.Stage.{Stage}
-use Rattle.iot_kept.specs.States.{Transaction, State}
-use Rattle.iot_machine.specs.Clients.{ClientState, local_run, base, so_far}
+use Rattle.iot_kept.specs.States.{Transaction, State, own_view}
+use Rattle.iot_machine.specs.Clients.{ClientState, local_run, so_far}
 use Rattle.iot_machine.specs.Sound.{HasPlan}
 use Rattle.iot_standing.specs.Scripts.{option_named}
 use Rattle.iot_queue.specs.declared.items.Stage.TheVariants as stages
@@ -76,27 +76,30 @@ OthersWait (m ∷ ms) = AreWaiting ms
 
 -- ---- on a disk
 
--- the running transaction, as it is on a disk: its acts are those of its script so far, on the tree after those that wait
-pub record RunningKept (t : Nodes) (running : Transaction) (m : clients.Running) : Type 0 where
+-- a running transaction, as it is on a disk: its acts are those of its script so far, on its base
+pub record RunningKept (running : Transaction) (m : clients.Running) : Type 0 where
   pub number : running.number ≡ m.number
   pub name : running.script ≡ m.script.name
   pub script : IsScript m.script.code
   pub few : m.acts ≤ ACT_LIMIT
   pub count : length running.acts ≡ m.acts
-  pub acts : running.acts ≡ (so_far t m).acts
-  pub tree : after_acts t running.acts ≡ (so_far t m).tree
+  pub base : running.base ≡ m.base
+  pub acts : running.acts ≡ (so_far m).acts
+  pub tree : own_view running ≡ (so_far m).tree
   pub option : running.option ≡ option_named m.option
+  pub is_tree : IsTree running.base
+  pub spelled : IsSpelledTree running.base
 
-abbrev pub RunningKeptIfAny : Nodes → Option Transaction → Option clients.Running → Type 0
-RunningKeptIfAny t None None = Unit {0}
-RunningKeptIfAny t (Some running) (Some m) = RunningKept t running m
-RunningKeptIfAny t running m = ⊥
+abbrev pub RunKept : List Transaction → List clients.Running → Type 0
+RunKept [] [] = Unit {0}
+RunKept (it ∷ running) (m ∷ ms) = RunningKept it m × RunKept running ms
+RunKept running ms = ⊥
 
 -- the state is what a client of the machine keeps
 pub record StateKept (state : State) (m : ClientState) : Type 0 where
   pub held : state.held ≡ m.held
   pub items : ItemsStand state.items state.held m.items
-  pub running : RunningKeptIfAny (base m) state.running m.running
+  pub running : RunKept state.running m.running
   pub last : state.last ≡ m.last
   pub tree : IsTree state.held
   pub spelled : IsSpelledTree state.held

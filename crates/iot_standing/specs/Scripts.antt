@@ -1,5 +1,5 @@
 -- Scripts by their names.
-use Rattle.std.specs.Prelude.{◌≡◌, ℕ, List, Option, Some, None, bytes_eq, slice_get}
+use Rattle.std.specs.Prelude.{◌≡◌, ℕ, List, Option, Some, bytes_eq, slice_get}
 use Rattle.std.specs.List.{find, AllByRecursion}
 use Rattle.iot_machine.specs.Clients.{Declared, ClientState, Item, Running}
 use Rattle.iot_machine.specs.Options.{OnConflict}
@@ -53,11 +53,7 @@ pub record RunIsNamed (scripts : List Declared) (it : Running) : Type 0 where
   pub script : IsNamed scripts it.script
   pub resolver : HasNamed scripts it.option
 
-abbrev pub RunIsNamedIfAny : List Declared → Option Running → Type 0
-RunIsNamedIfAny scripts None = Unit {0}
-RunIsNamedIfAny scripts (Some it) = RunIsNamed scripts it
-
 -- each is the one that its name names
 pub record AreNamed (scripts : List Declared) (state : ClientState) : Type 0 where
   pub items : AllByRecursion (ItemIsNamed scripts) state.items
-  pub running : RunIsNamedIfAny scripts state.running
+  pub running : AllByRecursion (RunIsNamed scripts) state.running

@@ -1,5 +1,6 @@
 -- The state of a live client beside that of a client of the machine.
-use Rattle.std.specs.Prelude.{◌≡◌, Bool, true, false, List, [], ◌∷◌, length, Option, Some, None}
+use Rattle.std.specs.Prelude.{◌≡◌, ℕ, ◌==◌, Bool, true, false, List, [], ◌∷◌, length, Option, Some, None}
+use Rattle.std.specs.List.{list_any}
 use Rattle.iot_tree.specs.Tree.{Nodes, IsTree}
 use Rattle.iot_lang.specs.Scripts.{IsScript}
 use Rattle.iot_limits.specs.Spelled.{IsSpelledTree}
@@ -18,26 +19,28 @@ use Rattle.iot_machine.specs.Serving as serving
 
 -- ---- what is live
 
--- the running transaction, its class and its script
-pub record RunningStands (running : Transaction) (live : Live) (first : Bool) (m : clients.Running) : Type 0 where
+-- a running transaction, its class and its script; the numbers are those of the first-class ones
+pub record RunningStands (running : Transaction) (live : Live) (first : List ℕ) (m : clients.Running) : Type 0 where
   pub number : running.number ≡ m.number
   pub name : running.script ≡ m.script.name
-  pub code : live.code ≡ m.script.code
+  pub code : live.code ≡ Some m.script.code
   pub script : IsScript m.script.code
+  pub base : running.base ≡ m.base
+  pub tree : IsTree running.base
+  pub spelled : IsSpelledTree running.base
   pub acts : length running.acts ≡ m.acts
   pub option : running.option ≡ option_named m.option
-  pub class : live.first ≡ first
+  pub class : live.first ≡ list_any (λ number. number == m.number) first
 
-abbrev pub RunningStandsIfAny : Option Transaction → Option Live → Bool → Option clients.Running → Type 0
-RunningStandsIfAny None live first None = live ≡ None
-RunningStandsIfAny (Some running) live first None = ⊥
-RunningStandsIfAny (Some running) (Some live) first (Some m) = RunningStands running live first m
-RunningStandsIfAny running live first m = ⊥
+abbrev pub RunStand : List Transaction → List Live → List ℕ → List clients.Running → Type 0
+RunStand [] [] first [] = Unit {0}
+RunStand (it ∷ running) (live ∷ lives) first (m ∷ ms) = RunningStands it live first m × RunStand running lives first ms
+RunStand running lives first ms = ⊥
 
-pub record StateStands (state : State) (live : Option Live) (first : Bool) (m : ClientState) : Type 0 where
+pub record StateStands (state : State) (lives : List Live) (first : List ℕ) (m : ClientState) : Type 0 where
   pub held : state.held ≡ m.held
   pub items : ItemsStand state.items state.held m.items
-  pub running : RunningStandsIfAny state.running live first m.running
+  pub running : RunStand state.running lives first m.running
   pub last : state.last ≡ m.last
   pub tree : IsTree state.held
   pub spelled : IsSpelledTree state.held
@@ -49,11 +52,6 @@ pub record StateStands (state : State) (live : Option Live) (first : Bool) (m : 
 abbrev pub waits_of : List Item → Bool
 waits_of [] = false
 waits_of (item ∷ items) = true
-
--- no transaction runs or waits
-pub record IsFree (state : State) : Type 0 where
-  pub idle : state.running ≡ None
-  pub none : state.items ≡ []
 
 -- the option of the first
 abbrev pub head_option : List Item → Option OnConflict

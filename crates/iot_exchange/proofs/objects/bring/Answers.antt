@@ -1,5 +1,5 @@
-use Rattle.std.proofs.Common.{refl}
-use Rattle.iot_exchange.specs.Words.{nothing_held, stamps_in, stamps_of, state_in, hold}
+use Rattle.std.proofs.Common.{refl, ap, ◌∙◌}
+use Rattle.iot_exchange.specs.Words.{nothing_held, stamps_in, stamps_of, state_in, hold, State}
 use Rattle.iot_exchange.specs.Pairs.{Objects}
 use Rattle.iot_exchange.proofs.DoesLaws.{hands_on, then_answers, by_call, notes, keeps_more}
 use Rattle.iot_exchange.proofs.FollowingLaws.{held_is}
@@ -11,14 +11,14 @@ returns-then-not-is_connected g c = record {
   does = λ scripts. missed c.args.want.now hold (λ names at.
       (c.miss.ensures.all scripts names at).none (Objects 0 nothing_held nothing_held (state_in c.args.laptop.now).held c.args.want.now) _)
       c.miss.ensures.disks;
-  free = rw c.miss.ensures.state c.requires.free;
+  none = rw c.miss.ensures.state c.requires.none;
+  running = ap (λ (s : State). s.running) c.miss.ensures.state;
 }
 
 pub take-requires : goal.take-requires
 take-requires g c = record {
   stands = rw (rw c.in-Some.is at c.in_ok-reply.ensures.same) c.requires.ready.alive;
-  idle = rw c.in_ok-reply.ensures.state c.requires.free.idle;
-  none = rw c.in_ok-reply.ensures.state c.requires.free.none;
+  none = rw c.in_ok-reply.ensures.state c.requires.none;
   brings = rw c.deref.ensures.value
       (brings_own c.requires.ready (rw c.in-Some.is at c.in_ok-reply.ensures.asked) (record {
         same = rw c.in-Some.is at c.in_ok-reply.ensures.same;
@@ -61,7 +61,8 @@ returns-in-Some g c = record {
       }) c.args.laptop.now.place c.args.want.now c.in_ok-request.ensures scripts c.take.new.self c.take.result
       (rw c.deref.ensures.value at c.take.ensures.stamps))
       ((rw c.deref.ensures.value at c.take.ensures.does) t spells scripts) c.take.ensures.disk));
-  free = c.in_ok-take-in-Some.ensures.free;
+  none = c.in_ok-take-in-Some.ensures.none;
+  running = c.in_ok-take-in-Some.ensures.running ∙ ap (λ (s : State). s.running) c.in_ok-reply.ensures.state;
 }
 
 pub returns : goal.returns
@@ -74,5 +75,6 @@ returns g c = record {
       c.args.want.now)
       (c.in_ok-request.ensures, refl, held_is c.args.laptop.now.post)).is)
       asked.disks;
-  free = rw c.in_ok-reply.ensures.state c.requires.free;
+  none = rw c.in_ok-reply.ensures.state c.requires.none;
+  running = ap (λ (s : State). s.running) c.in_ok-reply.ensures.state;
 }

@@ -1,24 +1,24 @@
 use Rattle.std.proofs.Common.{refl, sym, ◌∙◌}
-use Rattle.iot_exchange.specs.Words.{runs_script}
+use Rattle.iot_exchange.specs.Words.{Begins, Goes, runs_through}
 use Rattle.iot_exchange.specs.Scripts.{script_of}
 use Rattle.iot_exchange.proofs.DoesLaws.{asks_then, refuses, answers, goes_then, hands_on, ready_after, up_is}
-use Rattle.iot_exchange.proofs.ExchangeLaws.{runs_here}
+use Rattle.iot_exchange.proofs.ExchangeLaws.{full_here}
 use Rattle.iot_exchange.proofs.runs.run.Goals as goal
 
-pub returns-then-runs : goal.returns-then-runs
-returns-then-runs g c option means =
-    asks_then (runs_here (sym c.runs.ensures ∙ c.if-runs.true)) (refuses c.requires.ready.ready.keeps c.in_ok-say.ensures)
+pub returns-then-is_full : goal.returns-then-is_full
+returns-then-is_full g c option means =
+    asks_then (full_here (sym c.is_full.ensures ∙ c.if-is_full.true)) (refuses c.requires.ready.ready.keeps c.in_ok-say.ensures)
 
 pub returns-then-not-is_connected : goal.returns-then-not-is_connected
 returns-then-not-is_connected g c option means =
-    asks_then (runs_here (sym c.runs.ensures ∙ c.if-runs.false))
+    asks_then (full_here (sym c.is_full.ensures ∙ c.if-is_full.false))
     (asks_then (up_is (sym c.is_connected.ensures ∙ c.if-not-is_connected.true))
-    (goes_then {next = λ _. runs_script (script_of c.args.script.now) option} refl
+    (goes_then {next = λ _. Goes (Begins (script_of c.args.script.now) option) runs_through} refl
     (answers c.requires.ready.ready.keeps) (c.run_script.ensures option means)))
 
 pub returns-in_err-sync_all : goal.returns-in_err-sync_all
 returns-in_err-sync_all g c option means =
-    asks_then (runs_here (sym c.runs.ensures ∙ c.if-runs.false))
+    asks_then (full_here (sym c.is_full.ensures ∙ c.if-is_full.false))
     (asks_then (up_is (sym c.is_connected.ensures ∙ c.if-not-is_connected.false))
     (hands_on c.in_err-sync_all.was c.from_residual-in_err-sync_all.ensures.1 c.sync_all.ensures))
 
@@ -27,7 +27,7 @@ run_script-requires-2-clause-ready g c = ready_after c.in_ok-sync_all.was c.sync
 
 pub returns : goal.returns
 returns g c option means =
-    asks_then (runs_here (sym c.runs.ensures ∙ c.if-runs.false))
+    asks_then (full_here (sym c.is_full.ensures ∙ c.if-is_full.false))
     (asks_then (up_is (sym c.is_connected.ensures ∙ c.if-not-is_connected.false))
-    (goes_then {next = λ _. runs_script (script_of c.args.script.now) option} c.in_ok-sync_all.was c.sync_all.ensures
+    (goes_then {next = λ _. Goes (Begins (script_of c.args.script.now) option) runs_through} c.in_ok-sync_all.was c.sync_all.ensures
     (c.run_script-2.ensures option means)))

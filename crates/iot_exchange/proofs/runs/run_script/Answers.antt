@@ -1,25 +1,25 @@
-use Rattle.std.proofs.Common.{false}
-use Rattle.iot_exchange.specs.Words.{run_steps, Ends, Goes, Repeats, Steps}
+use Rattle.std.proofs.Common.{Some}
+use Rattle.iot_exchange.specs.Words.{Ends, runs_through}
 use Rattle.iot_exchange.proofs.DoesLaws.{hands_on, goes_then, ready_after}
 use Rattle.iot_exchange.proofs.runs.run_script.Goals as goal
 
-pub returns-in_err-begin : goal.returns-in_err-begin
-returns-in_err-begin g c option means = hands_on c.in_err-begin.was c.from_residual.ensures.1 (c.begin.ensures _ option means)
+pub returns-in_err-number : goal.returns-in_err-number
+returns-in_err-number g c option means = hands_on c.in_err-number.was c.from_residual.ensures.1 (c.begin.ensures _ option means)
 
 pub steps-requires : goal.steps-requires
-steps-requires g c = (ready_after c.in_ok-begin.was
+steps-requires g c = (ready_after c.in_ok-number.was
     (c.begin.ensures _ c.requires.meant.on_conflict c.requires.meant.means) c.requires.ready.stands).ready
 
 pub returns-in_err-steps : goal.returns-in_err-steps
 returns-in_err-steps g c option means =
-    goes_then {next = λ _. Goes (Repeats run_steps (Steps false)) (λ _. Ends)} c.in_ok-begin.was (c.begin.ensures _ option means)
+    goes_then {next = runs_through} c.in_ok-number.was (c.begin.ensures _ option means)
     (hands_on c.in_err-steps.was c.from_residual-in_err-steps.ensures.1 (c.steps.ensures _))
 
 pub end-requires : goal.end-requires
-end-requires g c = ready_after c.in_ok-steps.was (c.steps.ensures _) (ready_after c.in_ok-begin.was
+end-requires g c = ready_after c.in_ok-steps.was (c.steps.ensures _) (ready_after c.in_ok-number.was
     (c.begin.ensures _ c.requires.meant.on_conflict c.requires.meant.means) c.requires.ready.stands).stands
 
 pub returns : goal.returns
 returns g c option means =
-    goes_then {next = λ _. Goes (Repeats run_steps (Steps false)) (λ _. Ends)} c.in_ok-begin.was (c.begin.ensures _ option means)
-    (goes_then {next = λ _. Ends} c.in_ok-steps.was (c.steps.ensures _) c.end.ensures)
+    goes_then {next = runs_through} c.in_ok-number.was (c.begin.ensures _ option means)
+    (goes_then {next = λ _. Ends (Some c.in_ok-number.number)} c.in_ok-steps.was (c.steps.ensures _) c.end.ensures)

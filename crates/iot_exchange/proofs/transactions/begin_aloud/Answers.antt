@@ -1,31 +1,34 @@
 use Rattle.std.proofs.Common.{◌++◌, refl, sym, ap, ◌∙◌}
+use Rattle.std.specs.Prelude.{option_map}
 use Rattle.std.specs.Option.{option_copied}
-use Rattle.iot_exchange.specs.Words.{transaction_of, class_of, begin_line, transaction_name, Transaction}
-use Rattle.iot_exchange.proofs.DoesLaws.{hands_on, then_tells, ready_after}
+use Rattle.iot_exchange.specs.Words.{Closes, Transaction, begin_line, begin_text, transaction, transaction_name}
+use Rattle.iot_exchange.proofs.DoesLaws.{goes_then, hands_on, ready_after, tells}
 use Rattle.iot_exchange.proofs.TransactionsLaws.{begun_said, none_said}
 use Rattle.iot_exchange.proofs.transactions.begin_aloud.Goals as goal
 
-pub returns-in_err-begin : goal.returns-in_err-begin
-returns-in_err-begin g c scripts on_conflict means =
-    hands_on c.in_err-begin.was c.from_residual.ensures.1 (c.begin.ensures scripts on_conflict means)
+pub returns-in_err-number : goal.returns-in_err-number
+returns-in_err-number g c scripts on_conflict means =
+    hands_on c.in_err-number.was c.from_residual.ensures.1 (c.begin.ensures scripts on_conflict means)
 
-pub running-requires : goal.running-requires
-running-requires g c = (ready_after c.in_ok-begin.was
+pub run-requires : goal.run-requires
+run-requires g c = (ready_after c.in_ok-number.was
     (c.begin.ensures c.requires.scripts c.requires.meant.on_conflict c.requires.meant.means) c.requires.ready.stands).ready.alive
 
 pub returns-in_ok-say_begin-in-Some : goal.returns-in_ok-say_begin-in-Some
 returns-in_ok-say_begin-in-Some g c scripts on_conflict means =
-    then_tells c.in_ok-begin.was (c.begin.ensures scripts on_conflict means) (λ names at pair here.
-    begun_said here.client.is c.begin.new.out c.say_begin.new.out _
-    (sym c.running.ensures.running ∙ ap (λ o. transaction_of (option_copied o)) c.in-Some.is) c.in-Some.running.now.first
-    (sym c.running.ensures.class ∙ ap (λ o. class_of (option_copied o)) c.in-Some.is)
+    goes_then {next = λ number. Closes (begin_text number)} c.in_ok-number.was (c.begin.ensures scripts on_conflict means)
+    (tells (c.begin.ensures scripts on_conflict means).disks (λ names at pair here.
+    begun_said here.client.is c.in_ok-number.number c.begin.new.out c.say_begin.new.out _
+    (sym c.run.ensures.running ∙ ap (λ o. option_map transaction (option_copied o)) c.in-Some.is) c.in-Some.running.now.first
+    (ap (λ o. option_map (λ it. it.first) (option_copied o)) (sym c.in-Some.is) ∙ c.run.ensures.class)
     (c.in_ok-say_begin-in-Some.ensures
     ∙ ap (λ (t : Transaction). c.begin.new.out
     ++ begin_line (transaction_name t.client t.number) c.in-Some.running.now.script c.in-Some.running.now.first)
-    c.transaction-transaction.ensures))
+    c.transaction-transaction.ensures)))
 
 pub returns-in-None : goal.returns-in-None
 returns-in-None g c scripts on_conflict means =
-    then_tells c.in_ok-begin.was (c.begin.ensures scripts on_conflict means) (λ names at pair here.
-    none_said here.client.is c.begin.new.out c.begin.new.out _
-    (sym c.running.ensures.running ∙ ap (λ o. transaction_of (option_copied o)) c.in-None.is) refl)
+    goes_then {next = λ number. Closes (begin_text number)} c.in_ok-number.was (c.begin.ensures scripts on_conflict means)
+    (tells (c.begin.ensures scripts on_conflict means).disks (λ names at pair here.
+    none_said here.client.is c.in_ok-number.number c.begin.new.out c.begin.new.out _
+    (sym c.run.ensures.running ∙ ap (λ o. option_map transaction (option_copied o)) c.in-None.is) refl))

@@ -1,4 +1,4 @@
-use Rattle.std.proofs.Common.{false}
+use Rattle.std.proofs.Common.{[]}
 use Rattle.iot_laptop.proofs.RestartLaws.{stands_over, over_second}
 use Rattle.iot_laptop.proofs.laptop.Laptop.broke.Goals as goal
 
@@ -8,4 +8,4 @@ second-requires g c = stands_over g.D.Disk.medium c.args.self.now c.broke.new.se
 pub returns-clause-after : goal.returns-clause-after
 returns-clause-after g c =
     over_second g.D.Disk.medium c.args.self.now c.broke.new.self c.second.new.self
-    (λ m same. λ i. record m { link = c.broke.ensures i; first = false }) c.second.ensures
+    (λ m same. λ i. record m { link = c.broke.ensures i; first = [] }) c.second.ensures

@@ -1,8 +1,7 @@
 use Rattle.iot_laptop.specs.Below.{no_text}
 use Rattle.std.proofs.lemmas.Result.{IfOk-weaker}
 use Rattle.iot_laptop.proofs.TrailsLaws.{fresh_trails}
-use Rattle.iot_laptop.proofs.CallsLaws.{if_two}
-use Rattle.iot_laptop.proofs.RestartLaws.{opens, opens_standing, live_fresh}
+use Rattle.iot_laptop.proofs.RestartLaws.{opens, opens_standing}
 use Rattle.iot_laptop.proofs.laptop.Laptop.open.Goals as goal
 
 pub open-requires-clause-stands : goal.open-requires-clause-stands
@@ -10,9 +9,11 @@ open-requires-clause-stands g c = opens_standing g.D.Disk.medium c.args.self.now
 
 pub returns-clause-step : goal.returns-clause-step
 returns-clause-step g c =
-    if_two c.open.result c.open.ensures.step c.open.ensures.live (λ on step live scripts.
+    IfOk-weaker c.open.result _ _
+    (λ on step scripts.
     opens g.D.Disk.medium c.args.self.now c.requires c.open.new.self c.args.out.now c.open.new.out on
-    (rw c.as_bytes.ensures.value at (step no_text)) (live_fresh c.open.new.self on live) scripts)
+    (rw c.as_bytes.ensures.value at (step no_text)) scripts)
+    c.open.ensures.step
 
 pub returns-clause-trails : goal.returns-clause-trails
 returns-clause-trails g c =

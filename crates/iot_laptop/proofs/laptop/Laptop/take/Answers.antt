@@ -1,7 +1,7 @@
 use Rattle.std.proofs.Common.{sym, ap, ◌∙◌, rules}
 use Rattle.std.proofs.lemmas.Result.{IfOk-at_ok}
-use Rattle.iot_laptop.specs.Below.{State, Laptop}
-use Rattle.iot_laptop.specs.Laptops.{state_in}
+use Rattle.iot_laptop.specs.Below.{Laptop, Post, Seated, State}
+use Rattle.iot_laptop.specs.Laptops.{state_by, state_in}
 use Rattle.iot_laptop.proofs.NodesLaws.{lent_at}
 use Rattle.iot_laptop.proofs.TrailsLaws.{takes_stamps}
 use Rattle.iot_laptop.proofs.CallsLaws.{as_is, brings, if_two}
@@ -13,17 +13,21 @@ returns-clause-does g c =
     let is = c.take_objects-answer.ensures in
     rw (sym (as_is c.goes_on.result)) (brings c.in-Up.is c.goes_on.ensures.goes (search rules)
     (lent_at _ _ _ c.in-Up.is c.requires.stands).tied is.only is.brings is.live is.stopped
-    (λ scripts first m here. held_live here))
+    (λ scripts first m here t. held_live here t))
 
-pub returns-clause-free : goal.returns-clause-free
-returns-clause-free g c =
+pub returns-clause-none : goal.returns-clause-none
+returns-clause-none g c =
     if_two c.goes_on.result c.goes_on.ensures.goes.same c.goes_on.ensures.goes.answers (λ u same was.
     let notes = (IfOk-at_ok _ was c.take_objects-answer.ensures.brings).notes in
-    let state = ap (λ (l : Laptop g.row.D.Denot). state_in l) same ∙ notes.state in
-    record {
-      idle = ap (λ (s : State). s.running) state ∙ (rw c.in-Up.is at c.requires.idle);
-      none = ap (λ (s : State). s.items) state ∙ (rw c.in-Up.is at c.requires.none);
-    })
+    ap (λ (l : Laptop g.row.D.Denot). (state_in l).items) same ∙ ap (λ (s : State). s.items) notes.state
+    ∙ (rw c.in-Up.is at c.requires.none))
+
+pub returns-clause-running : goal.returns-clause-running
+returns-clause-running g c =
+    if_two c.goes_on.result c.goes_on.ensures.goes.same c.goes_on.ensures.goes.answers (λ u same was.
+    let notes = (IfOk-at_ok _ was c.take_objects-answer.ensures.brings).notes in
+    ap (λ (l : Laptop g.row.D.Denot). (state_in l).running) same ∙ ap (λ (s : State). s.running) notes.state
+    ∙ ap (λ (p : Post (Seated g.row.D.Denot) g.row.D.Denot). (state_by p).running) (sym c.in-Up.is))
 
 pub returns-clause-stamps : goal.returns-clause-stamps
 returns-clause-stamps g c =

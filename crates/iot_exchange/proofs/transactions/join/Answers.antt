@@ -1,0 +1,41 @@
+use Rattle.std.proofs.Common.{Ok, ap, ◌∙◌}
+use Rattle.iot_exchange.specs.Ending.{ended_as}
+use Rattle.iot_exchange.specs.Saying.{synced_by}
+use Rattle.iot_exchange.specs.Words.{waits_unless}
+use Rattle.iot_exchange.specs.declared.synced.Synced.{Synced}
+use Rattle.iot_exchange.proofs.DoesLaws.{answers, goes_then, hands_on, no_memory, tells}
+use Rattle.iot_exchange.proofs.YieldingLaws.{ends_aloud}
+use Rattle.iot_exchange.proofs.transactions.join.Goals as goal
+
+pub returns-then-not-gone : goal.returns-then-not-gone
+returns-then-not-gone g c =
+    ends_aloud c.args.gone.now c.requires.ready.keeps c.in_ok-say_of.ensures c.if-not-gone.true
+    (tells c.requires.ready.keeps (λ names at pair here. c.in_ok-say_pending.ensures))
+
+pub returns-in_err-sync : goal.returns-in_err-sync
+returns-in_err-sync g c =
+    ends_aloud c.args.gone.now c.requires.ready.keeps c.in_ok-say_of.ensures c.if-not-gone.false
+    (hands_on (ap synced_by c.in_err-sync.was) c.from_residual-in_err-sync.ensures.1 c.sync.ensures)
+
+pub returns-in_ok-say_pending-in-Unanswered : goal.returns-in_ok-say_pending-in-Unanswered
+returns-in_ok-say_pending-in-Unanswered g c =
+    ends_aloud c.args.gone.now c.requires.ready.keeps c.in_ok-say_of.ensures c.if-not-gone.false
+    (goes_then {next = waits_unless (ended_as c.args.gone.now)}
+    (ap synced_by (c.in_ok-sync.was ∙ ap (λ (how : Synced). Ok how) c.in-Unanswered.is)) c.sync.ensures
+    (tells c.sync.ensures.disks (λ names at pair here. c.in_ok-say_pending-in-Unanswered.ensures)))
+
+pub returns-in-Moved : goal.returns-in-Moved
+returns-in-Moved g c =
+    ends_aloud c.args.gone.now c.requires.ready.keeps c.in_ok-say_of.ensures c.if-not-gone.false
+    (goes_then {next = waits_unless (ended_as c.args.gone.now)}
+    (ap synced_by (c.in_ok-sync.was ∙ ap (λ (how : Synced). Ok how) c.in-Moved.is)) c.sync.ensures (answers c.sync.ensures.disks))
+
+pub returns-in-Stays : goal.returns-in-Stays
+returns-in-Stays g c =
+    ends_aloud c.args.gone.now c.requires.ready.keeps c.in_ok-say_of.ensures c.if-not-gone.false
+    (goes_then {next = waits_unless (ended_as c.args.gone.now)}
+    (ap synced_by (c.in_ok-sync.was ∙ ap (λ (how : Synced). Ok how) c.in-Stays.is)) c.sync.ensures (answers c.sync.ensures.disks))
+
+pub returns-in_err-say_pending-in-Unanswered : goal.returns-in_err-say_pending-in-Unanswered
+returns-in_err-say_pending-in-Unanswered g c =
+    no_memory c.from_residual-in_err-say_pending-in-Unanswered.ensures.1 c.sync.ensures.disks
