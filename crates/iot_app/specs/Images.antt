@@ -2,12 +2,11 @@
 -- taken from the source, `at_end` that nothing is left there, and `wrote bytes` that these were written to the sink.
 use Rattle.std.specs.Prelude.{◌≡◌, ◌⊎◌, ℕ, ◌≤◌, List, [], ◌++◌, length, codes, decimal}
 use Rattle.iot_durable.specs.Damage.{IsDamagedAt}
-use Rattle.iot_durable.specs.Standing.{header}
 use Rattle.iot_image.specs.Shown.{IsShown}
 use Rattle.iot_machine.specs.Texts.{line}
 use Rattle.iot_slots.specs.Decoding.{Foreign, decoded}
 use Rattle.iot_store.specs.Images.{IsUpgraded}
-use Rattle.iot_store.specs.Rules.{rules}
+use Rattle.iot_store.specs.Rules.{header, rules}
 use Rattle.iot_app.specs.Input.{TookSome, TookTooMuch}
 use Rattle.iot_app.specs.Played.{WroteFront}
 use Rattle.iot_app.specs.Refusals.{too_long_line}

@@ -6,9 +6,8 @@ use Rattle.iot_words.specs.declared.faults.WordsFault.TheVariants as words
 use Rattle.iot_words.specs.declared.jobs.Run.{Run}
 use Rattle.iot_words.specs.declared.jobs.Run.TheVariants.{Generate}
 use Rattle.iot_durable.specs.Damage.{IsDamagedAt}
-use Rattle.iot_durable.specs.Standing.{header}
 use Rattle.iot_slots.specs.Decoding.{Foreign, decoded}
-use Rattle.iot_store.specs.Rules.{rules}
+use Rattle.iot_store.specs.Rules.{header, rules}
 use Rattle.iot_app.specs.Images.{Says, damaged_line, foreign_line}
 use Rattle.iot_app.specs.Input.{TookFor}
 use Rattle.iot_app.specs.Played.{WroteFront}

@@ -3,12 +3,13 @@ use Rattle.iot_server_node.proofs.Common.{◌≡◌, ℕ, Bool, true, false, Lis
 use Rattle.iot_server_node.proofs.Common.{append_assoc, append-nil, lists, IsImage}
 use Rattle.iot_server_node.specs.Prelude.{Medium, next, Commit, Node, Refines, server_name, kept_text}
 use Rattle.iot_server_node.specs.Prelude.{ComesBack, stopped_line, kept_line, lost_line, PostStands, CameIf, back_said, Doubt, Post, Down}
-use Rattle.iot_server_node.specs.Prelude.{Keeping, ServerKeeper}
+use Rattle.iot_server_node.specs.Prelude.{Keeping, ServerKeeper, records_in}
 use Rattle.iot_server_node.specs.Deciding.{HasCount, Begins, DecidesBy, DecidesIfAny, DecidesPost}
 use Rattle.iot_node.proofs.PostsLaws.{next_number, same_number}
 
 -- an image of a list has as many records as are counted
-many_there : (bytes : List ℕ) (n : ℕ) (commits : List Commit) (count : ℕ) → IsImage bytes n commits → HasCount count bytes → n ≡ count
+many_there : (bytes : List ℕ) (n : ℕ) (commits : List Commit) (count : ℕ) → IsImage bytes n commits → HasCount records_in count bytes
+    → n ≡ count
 many_there bytes n commits count is has = sym is.many ∙ has.counted
 
 -- a text that was said, also within a longer one
@@ -17,12 +18,12 @@ pub begins_in : (text more rest : List ℕ) {x mid y said : List ℕ} → y ≡ 
 begins_in text more rest whole wrote is = record { rest = more ++ rest; is = rw (whole, wrote, is) (simp append_assoc) }
 
 -- any node, of which an image has as many records as are counted in it, and which says how it came back in front of this
-module _ {K S D : Type 0} (keeping : Keeping K S D) (medium : Medium D)
-    (many : (bytes : List ℕ) (n : ℕ) (s : S) (count : ℕ) → keeping.image bytes n s → HasCount count bytes → n ≡ count)
+module _ {K S D : Type 0} (keeping : Keeping K S D) (medium : Medium D) (counted_in : List ℕ → ℕ)
+    (many : (bytes : List ℕ) (n : ℕ) (s : S) (count : ℕ) → keeping.image bytes n s → HasCount counted_in count bytes → n ≡ count)
     (name x mid y rest : List ℕ) (whole : y ≡ mid ++ rest) where
   -- it came back from this image
   by_image : (images : List ℕ → Type 0) (doubt : Doubt) (bytes : List ℕ) (n : ℕ) (s : S) → images bytes → keeping.image bytes n s
-      → mid ≡ x ++ back_said name (Some doubt) n → DecidesBy images doubt.count name x y
+      → mid ≡ x ++ back_said name (Some doubt) n → DecidesBy counted_in images doubt.count name x y
   by_image images doubt bytes n s left is wrote = record {
     kept = λ all.
         let counted = many bytes n s (next doubt.count) is (all.each bytes left) in
@@ -35,7 +36,7 @@ module _ {K S D : Type 0} (keeping : Keeping K S D) (medium : Medium D)
 
   by_doubt : (disk : D) (doubt : Option Doubt) (on : Bool) (node : Node S)
       → CameIf keeping medium on (Down (record { disk = disk; doubt = doubt })) name x mid node
-      → (on ≡ false → y ≡ x ++ stopped_line name) → DecidesIfAny (medium.may_leave disk) doubt name x y
+      → (on ≡ false → y ≡ x ++ stopped_line name) → DecidesIfAny counted_in (medium.may_leave disk) doubt name x y
   by_doubt disk None on node came stopped = tt
   by_doubt disk (Some doubt) false node came stopped =
       let it = begins_in (stopped_line name) [] [] (sym (append-nil y)) (stopped refl) (sym (append-nil (stopped_line name))) in
@@ -47,7 +48,7 @@ module _ {K S D : Type 0} (keeping : Keeping K S D) (medium : Medium D)
 
   -- by all images, if it is down
   pub decides_post : (post : Post K D) (on : Bool) (node : Node S) → CameIf keeping medium on post name x mid node
-      → (on ≡ false → y ≡ x ++ stopped_line name) → DecidesPost medium post name x y
+      → (on ≡ false → y ≡ x ++ stopped_line name) → DecidesPost counted_in medium post name x y
   decides_post (Down fallen) on node came stopped = by_doubt fallen.disk fallen.doubt on node came stopped
   decides_post post on node came stopped = tt
 
@@ -59,8 +60,8 @@ module _ {D : Type 0} (medium : Medium D) (names : List (List ℕ)) (node : Node
 
   pub decides : (old new : Post (ServerKeeper D) D) (on : Bool) → PostStands (lists medium) medium (kept_text names) old node
       → Refines (PostStands (lists medium) medium (kept_text names)) (ComesBack server_name (kept_text names)) old new x y on
-      → CameIf (lists medium) medium on old server_name x y node → DecidesPost medium old server_name x y
+      → CameIf (lists medium) medium on old server_name x y node → DecidesPost records_in medium old server_name x y
   decides old new on here step came =
       let s = step.step node here in
-      decides_post (lists medium) medium many_there server_name x y y [] (sym (append-nil y)) old on node came
+      decides_post (lists medium) medium records_in many_there server_name x y y [] (sym (append-nil y)) old on node came
       (λ off. said_stopped on s.1 s.0 off s.2 s.3)

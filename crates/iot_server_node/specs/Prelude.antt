@@ -3,7 +3,7 @@ pub use Rattle.iot_acts.specs.Traces.{ActsHold, after_acts}
 pub use Rattle.iot_acts.specs.Turns.{DiffersAt, reads_of, turns}
 pub use Rattle.iot_disk.specs.Disk.{Medium}
 pub use Rattle.iot_disk.specs.declared.faults.JournalFault.{JournalFault}
-pub use Rattle.iot_durable.specs.Standing.{EachGoes, IsRenewed, Leads, StandWith, header, records_in}
+pub use Rattle.iot_durable.specs.Standing.{EachGoes, IsRenewed, Leads, StandWith}
 pub use Rattle.iot_exec.specs.Serial.{Entry, run_entry, tree_from}
 pub use Rattle.iot_machine.specs.Calls.{Call, Nothing, Says, Then, either}
 pub use Rattle.iot_machine.specs.Clients.{snapshot}
@@ -28,8 +28,8 @@ pub use Rattle.iot_slots.specs.Decoding.{Damaged, Decoded, Encodes, Foreign, Not
 pub use Rattle.iot_slots.specs.Slots.{appended}
 pub use Rattle.iot_stamp.specs.Stamps.{Stamps}
 pub use Rattle.iot_store.specs.Records.{IsRecord, record_spelling}
-pub use Rattle.iot_store.specs.Rules.{rules}
-pub use Rattle.iot_store.specs.Standing.{EachStays, IsGrown, StandFor}
+pub use Rattle.iot_store.specs.Rules.{header, rules}
+pub use Rattle.iot_store.specs.Standing.{EachStays, IsGrown, StandFor, records_in}
 pub use Rattle.iot_store.specs.States.{CanFollow, State, after_commit, opening}
 pub use Rattle.iot_tree.specs.Tree.{IsTree, IsWhole, Nodes, root_alone}
 pub use Rattle.iot_tree.specs.declared.acts.Act.{Act}

@@ -4,7 +4,7 @@ pub use Rattle.std.proofs.Common.{codes, cond, drop, false, get_or, inl, inr, le
 pub use Rattle.std.proofs.Common.{slice_set, subst, suc, sym, take, true, zero, ℕ, ◌++◌, ◌+◌, ◌<◌, ◌||◌, ◌∙◌, ◌∷◌, ◌≡◌, ◌≤◌, ◌⊎◌}
 pub use Rattle.std.proofs.Math.Seq.{get_or-append_seam, map-set_same, set-append_seam}
 pub use Rattle.std.proofs.lemmas.List.{append-nil, drop_more, length-append, length-map, length-set, map-append, map_more, take_all}
-pub use Rattle.iot_laptop.proofs.NodesLaws.{awake_stands, fallen_stands, lent_at, node_stands, own_in, same_name, some_awake}
+pub use Rattle.iot_laptop.proofs.NodesLaws.{awake_stands, fallen_stands, lent_at, node_stands, same_name, some_awake}
 pub use Rattle.iot_machine.proofs.FollowsLaws.{all_as, all_push, all_set}
 pub use Rattle.iot_machine.proofs.SoundLaws.{sound_event, sound_opening}
 pub use Rattle.iot_node.proofs.StepsLaws.{asks, bind, says, says_this}

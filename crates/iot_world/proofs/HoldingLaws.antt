@@ -9,7 +9,7 @@ use Rattle.iot_world.specs.Prelude.{is_some, true, Result, Ok, Err, IfErr, OnOk,
 use Rattle.iot_world.specs.Prelude.{names_in, no_text, Machine, Commit, Node, Counts, Refines, kept_text, CountsOn, KeepsDisk, counts_on}
 use Rattle.iot_world.specs.Prelude.{Keeping, PostStands, Lasts, HoldsEither, StepsTo, Post, Up, Down, Between, lists, IsImage, HasDisk}
 use Rattle.iot_world.specs.Prelude.{HavingAnswered, ServerNode, ClientStands, StandsAnyhow, disk_in, IsClientImage, seating, Laptop, World}
-use Rattle.iot_world.specs.Prelude.{Client, Transaction, base, DiskGoesOn, GoesOnFrom, IsOneMoreIfAny}
+use Rattle.iot_world.specs.Prelude.{Client, Transaction, DiskGoesOn, GoesOnFrom, IsOneMoreIfAny}
 use Rattle.iot_judging.specs.Lists.{state_of}
 use Rattle.iot_machine.specs.Machine as machine
 use Rattle.iot_node.specs.Posts.{disk_of}
@@ -21,7 +21,7 @@ use Rattle.iot_laptop.proofs.SeatsLaws.{seat_images}
 use Rattle.iot_world.proofs.ListLaws.{each_length, each_map, each_same_as}
 use Rattle.iot_world.proofs.WorldsLaws.{same_length}
 use Rattle.iot_machine.specs.Clients as clients
-use Rattle.iot_standing.specs.Kept.{RunningKeptIfAny, StateKept}
+use Rattle.iot_standing.specs.Kept.{RunKept, StateKept}
 use Rattle.iot_exchange.proofs.TransactionsLaws.{queue_are}
 
 -- ---- where the spare disks are, and how many
@@ -63,19 +63,20 @@ module _ {D : Type 0} (medium : Medium D) (world : World D) (m : Machine) (stand
 
 -- ---- what a client keeps
 
-running_is : (m : ClientState) (r : Option Transaction) (o : Option clients.Running) → RunningKeptIfAny (base m) r o
-    → r ≡ running_kept m o
-running_is m None None it = refl
-running_is m (Some running) (Some run) it =
-    λ i. Some (record { number = it.number i; script = it.name i; option = it.option i; acts = it.acts i })
-running_is m r o it = absurd it
+run_are : (running : List Transaction) (ms : List clients.Running) → RunKept running ms → running ≡ map running_kept ms
+run_are [] [] all = refl
+run_are (one ∷ running) (m ∷ ms) all =
+    let it = all.0 in
+    let rest = run_are running ms all.1 in
+    λ i. record { number = it.number i; script = it.name i; option = it.option i; base = it.base i; acts = it.acts i } ∷ rest i
+run_are running ms all = absurd all
 
 -- what is kept, said plainly
 pub state_is : (s : State) (m : ClientState) → StateKept s m → s ≡ state_kept m
 state_is s m it = λ i. record {
   held = it.held i;
   items = queue_are s.items s.held m it.held it.items i;
-  running = running_is m s.running m.running it.running i;
+  running = run_are s.running m.running it.running i;
   last = it.last i;
   access = it.access i;
 }

@@ -1,8 +1,8 @@
 -- The clients that a world lends are the machine's.
 use Rattle.std.proofs.lemmas.Option.{same_Some}
-use Rattle.iot_world.proofs.Common.{◌≡◌, ℕ, ◌<◌, ◌≤◌, length, Option, Some, None, sym, ap, ◌∙◌, arith, slice_get, inl, inr, refl, false}
-use Rattle.iot_world.proofs.Common.{subst, own_in, lent_at, awake_stands, fallen_stands, StandsFor, IsWorldOfSome, LendsClient, ClientIs}
-use Rattle.iot_world.proofs.Common.{IsReady}
+use Rattle.iot_world.proofs.Common.{◌≡◌, ℕ, ◌<◌, ◌≤◌, length, List, Option, Some, None, sym, ap, ◌∙◌, arith, slice_get, inl, inr, refl}
+use Rattle.iot_world.proofs.Common.{subst, lent_at, awake_stands, fallen_stands, StandsFor, IsWorldOfSome, LendsClient, ClientIs}
+use Rattle.iot_world.proofs.Common.{IsReady, false}
 use Rattle.iot_world.specs.Prelude.{IfSome, Medium, Machine, client_in, Post, Up, disk_in, Laptop, Seated, World}
 use Rattle.iot_kept.specs.States as kept
 use Rattle.iot_kept.specs.States.{view}
@@ -10,7 +10,7 @@ use Rattle.iot_client.specs.Ties.{Live, disk_of as client_disk}
 use Rattle.iot_client.specs.declared.client.Client.{Client}
 use Rattle.iot_laptop.specs.Laptops.{IsLent, LaptopStands, lent_by, disk_by, state_in, live_in, is_alive}
 use Rattle.iot_standing.specs.Kept.{ItemsStand}
-use Rattle.iot_standing.specs.States.{RunningStandsIfAny}
+use Rattle.iot_standing.specs.States.{RunStand}
 use Rattle.iot_standing.proofs.StatesLaws.{view_is}
 use Rattle.iot_world.proofs.WorldsLaws.{same_length, inside_here, client_here}
 
@@ -39,13 +39,12 @@ module _ {D : Type 0} (medium : Medium D) where
             held = ap (λ (s : kept.State). s.held) lent.state ∙ there.state.held;
             view =
                 ap view lent.state
-                ∙ view_is (state_in laptop) (live_in laptop) (client_in m place).first (client_in m place).node.durable there.state
-                (own_in medium m.scripts laptop (client_in m place) there);
+                ∙ view_is (state_in laptop) (live_in laptop) (client_in m place).first (client_in m place).node.durable there.state;
             queue =
                 subst (λ (s : kept.State). ItemsStand s.items s.held (client_in m place).node.durable.items) (sym lent.state)
                 there.state.items;
             running =
-                subst (λ (o : kept.State × Option Live). RunningStandsIfAny o.0.running o.1 (client_in m place).first
+                subst (λ (o : kept.State × List Live). RunStand o.0.running o.1 (client_in m place).first
                 (client_in m place).node.durable.running) (λ i. (sym lent.state i, sym lent.live i)) there.state.running;
             ready = record {
               tied = lent.tied;

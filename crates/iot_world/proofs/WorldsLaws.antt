@@ -1,18 +1,18 @@
 -- One node of a world, or a client with the server, among all others: these stay, and each client keeps its name.
 use Rattle.std.proofs.lemmas.Option.{same_Some, slice_get-map, slice_get-get_or, slice_get_within}
-use Rattle.iot_world.proofs.Common.{◌≡◌, ℕ, Bool, true, false, List, Option, Some, None, ap, ◌∙◌, ◌<◌, [], length, map, slice_get}
-use Rattle.iot_world.proofs.Common.{slice_index_or, slice_set, refl, sym, subst, arith, ◌++◌, length-set, append-nil, map-set_same, up_is}
-use Rattle.iot_world.proofs.Common.{Each, ArePlaced, StandsFor, StandsForSome, MakesStep, scripts_of, all_set}
+use Rattle.iot_world.proofs.Common.{◌≡◌, ℕ, Bool, true, false, List, Some, ap, ◌∙◌, ◌<◌, [], ◌∷◌, length, map}
+use Rattle.iot_world.proofs.Common.{slice_get, slice_index_or, slice_set, refl, sym, subst, arith, ◌++◌, length-set, append-nil}
+use Rattle.iot_world.proofs.Common.{Each, ArePlaced, StandsFor, StandsForSome, MakesStep, scripts_of, all_set, up_is, map-set_same}
 use Rattle.iot_world.specs.Prelude.{NodeEvent, Call, At, Gets, Then, Lens, ClientState, Running, Declared, link_part, node_part, comes_back}
-use Rattle.iot_world.specs.Prelude.{cuts_off, names_in, counts_anew, RestartsServer, IfUp, task_part, client_part, Client, node, Machine}
+use Rattle.iot_world.specs.Prelude.{FindsLongest, cuts_off, counts_anew, RestartsServer, IfUp, task_part, client_part, Client, Machine}
 use Rattle.iot_world.specs.Prelude.{Commit, Pair, no_client, client_in, client_at, pair_at, server, Node, OpensClient, Vec, Global, Medium}
 use Rattle.iot_world.specs.Prelude.{Refines, server_name, kept_text, Restarts, StepsTo, ServerStands, HavingAnswered, answered_since, is_up}
 use Rattle.iot_world.specs.Prelude.{ServerNode, ClientStands, StandsAnyhow, Laptop, DeclaredScript, World, option_map, KeepsTrails}
-use Rattle.iot_world.specs.Prelude.{stamps_in}
+use Rattle.iot_world.specs.Prelude.{names_in, node, stamps_in}
 use Rattle.iot_event.specs.declared.event.LinkEvent.{LinkEvent}
 use Rattle.iot_event.specs.declared.event.LinkEvent.TheVariants as links
 use Rattle.iot_event.specs.declared.event.NodeEvent.TheVariants as nodes
-use Rattle.iot_machine.proofs.KeepsLaws.{Stays, asks_then, keeps_at, keeps_does, keeps_then, stays_goes_on}
+use Rattle.iot_machine.proofs.KeepsLaws.{Stays, asks_then, keeps_at, keeps_does, keeps_then, stays_goes_on, stays_says, stays_then}
 use Rattle.iot_event.specs.declared.event.ClientEvent.TheVariants as client_events
 use Rattle.iot_event.specs.declared.event.Task.{Task}
 use Rattle.iot_exchange.specs.Pairs.{two, AnyStands, IsStandingWith}
@@ -33,16 +33,21 @@ KeepsName call = (name : List ℕ) → Stays (λ client. client.name ≡ name) c
 at_its_node : {A : Type 0} {call : Call (Node ClientState) A} → KeepsName (At node call)
 at_its_node name = keeps_at (λ m same. record { at = λ k n text a is step. same })
 
-keeps_cut : (o : Option Running) → KeepsName (cuts_off o)
-keeps_cut None name = keeps_does (λ m same. same)
-keeps_cut (Some it) name =
+finds_keeps : (it : Running) → KeepsName (FindsLongest it)
+finds_keeps it name = record { at = λ m n text a same step. ap (λ (one : Client). one.name) step.2 ∙ same }
+
+keeps_cut : (running : List Running) → KeepsName (cuts_off running)
+keeps_cut [] name = keeps_does (λ m same. same)
+keeps_cut (it ∷ running) name =
+    keeps_then (finds_keeps it name)
+    (λ acts.
     keeps_then (record { at = λ m n text a same step. ap (λ (one : Client). one.name) step.is ∙ same })
-    (stays_goes_on (keeps_does {Q = λ done client. client.name ≡ name} (λ m same. same)))
+    (stays_goes_on (stays_then stays_says (λ said. keeps_cut running name))))
 
 keeps_back : (alive : Bool) → KeepsName (comes_back alive)
 keeps_back true name = keeps_does (λ m same. same)
 keeps_back false name =
-    asks_then (λ called. keeps_then (at_its_node name) (stays_goes_on (asks_then (λ o. keeps_cut o name))))
+    asks_then (λ called. keeps_then (at_its_node name) (stays_goes_on (asks_then (λ running. keeps_cut running name))))
 
 pub node_keeps : (what : NodeEvent) → KeepsName (node_part what)
 node_keeps nodes.Show name = at_its_node name

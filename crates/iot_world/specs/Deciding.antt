@@ -5,13 +5,14 @@ use Rattle.iot_world.specs.Prelude.{ℕ, true, List, Medium, Event, NodeEvent, R
 use Rattle.iot_world.specs.Prelude.{CameIf, lists, ServerStands, post_of, is_up, Came, ClientStands, Laptop, World}
 use Rattle.iot_event.specs.declared.event.ClientEvent.TheVariants.{Node}
 use Rattle.iot_event.specs.declared.event.Event.TheVariants as events
+use Rattle.iot_kept.specs.Standing.{records_in}
 use Rattle.iot_machine.specs.Nodes as nodes
 use Rattle.iot_server_node.specs.Deciding.{DecidesPost, DecidesServer}
 use Rattle.iot_world.specs.World.{ClientIs}
 
 -- a client that comes back, by all images, and by the one from which it does
 pub record DecidesClient {D : Type 0} (medium : Medium D) (before after : List ℕ) (laptop : Laptop D) : Type 0 where
-  pub by_all : DecidesPost medium laptop.post laptop.name before after
+  pub by_all : DecidesPost records_in medium laptop.post laptop.name before after
   pub by_image : is_fallen laptop.post ≡ true → (scripts : List Declared) (m : Client) → ClientStands medium scripts laptop m
       → Came medium laptop before after m
 

@@ -1,7 +1,7 @@
 -- What the disks hold that a world gives back, and what they count.
 use Rattle.std.specs.Prelude.{◌≡◌, ◌⊎◌, ◌∷◌, ◌++◌}
 use Rattle.iot_world.specs.Prelude.{ℕ, List, length, map, Option, Some, None, Transaction, State, StandFor, Medium, ClientState, Running}
-use Rattle.iot_world.specs.Prelude.{base, so_far, Machine, Client, Commit, Counts, IsImage, IsOneMoreIfAny}
+use Rattle.iot_world.specs.Prelude.{so_far, Machine, Client, Commit, Counts, IsImage, IsOneMoreIfAny}
 use Rattle.iot_machine.specs.Recorded.{option_named, queue_kept}
 use Rattle.iot_standing.specs.Kept.{access_kept}
 use Rattle.iot_world.specs.World.{Each}
@@ -19,17 +19,22 @@ Holds Is images s (Some after) = (image : List ℕ) → images image → Is s im
 abbrev pub HoldsList : (images : List ℕ → Type 0) → List Commit → (doubt : Option (List Commit)) → Type 0
 HoldsList images commits doubt = Holds IsListed images commits doubt
 
--- what a client keeps, with the acts of its scripts: what is durable of it
-abbrev pub running_kept : ClientState → Option Running → Option Transaction
-running_kept m None = None
-running_kept m (Some it) =
-    Some (record { number = it.number; script = it.script.name; option = option_named it.option; acts = (so_far (base m) it).acts })
+-- a running transaction, with the acts of its script
+abbrev pub running_kept : Running → Transaction
+running_kept it = record {
+  number = it.number;
+  script = it.script.name;
+  option = option_named it.option;
+  base = it.base;
+  acts = (so_far it).acts;
+}
 
+-- what a client keeps, with the acts of its scripts: what is durable of it
 abbrev pub state_kept : ClientState → State
 state_kept m = record {
   held = m.held;
   items = queue_kept m;
-  running = running_kept m m.running;
+  running = map running_kept m.running;
   last = m.last;
   access = access_kept m.items;
 }

@@ -23,14 +23,15 @@ pub use Rattle.iot_lang.specs.Code.{Code}
 pub use Rattle.iot_laptop.specs.Alone.{OpensClient}
 pub use Rattle.iot_laptop.specs.Calls.{Came}
 pub use Rattle.iot_laptop.specs.Laptops.{ClientStands, KeepsTrails, StandsAnyhow, disk_in, stamps_in, IsUnopened, SamePlace}
-pub use Rattle.iot_standing.specs.Scripts.{AreNamed, HasNamed, IsNamed, ItemIsNamed, RunIsNamedIfAny, script_named}
+pub use Rattle.iot_standing.specs.Scripts.{AreNamed, HasNamed, IsNamed, ItemIsNamed, RunIsNamed, script_named}
 pub use Rattle.iot_laptop.specs.Seats.{IsClientImage, seating}
 pub use Rattle.iot_laptop.specs.declared.laptop.Laptop.{Laptop}
 pub use Rattle.iot_laptop.specs.declared.seated.Seated.{Seated}
 pub use Rattle.iot_machine.specs.Calls.{At, Call, Gets, Lens, Says, Then, goes_on}
-pub use Rattle.iot_machine.specs.Clients.{ClientState, Declared, Running, base, so_far, view}
+pub use Rattle.iot_machine.specs.Clients.{ClientState, Declared, Running, so_far, view}
 pub use Rattle.iot_machine.specs.Events.{Declares, IfUp, Logs, RestartsServer, add_client, client_of, client_part, comes_back, counts_anew}
 pub use Rattle.iot_machine.specs.Events.{cuts_off, declare_script, event_part, link_part, names_in, no_text, node_part, task_part}
+pub use Rattle.iot_machine.specs.Events.{FindsLongest}
 pub use Rattle.iot_machine.specs.Json.{client_data, row_count, json_text}
 pub use Rattle.iot_machine.specs.Machine.{Client, Commit, Machine, Pair, client_at, client_in, first_of, handed, no_client, node, pair_at}
 pub use Rattle.iot_machine.specs.Machine.{server}

@@ -6,7 +6,7 @@ use Rattle.iot_world.specs.Prelude.{Machine, handed, client_in, event_part, name
 use Rattle.iot_world.specs.Prelude.{counts_on, Server, disk_of, ServerStands, KeepsCommits, OpensClient, ClientStands, disk_in, Laptop}
 use Rattle.iot_world.specs.Prelude.{AreApart, World}
 use Rattle.iot_kept.specs.States as states
-use Rattle.iot_client.specs.Ties.{state_of, live_of, place_of, IsTied, IsBegunIfAny}
+use Rattle.iot_client.specs.Ties.{state_of, live_of, place_of, IsTied, AreBegun}
 use Rattle.iot_client.specs.declared.client.Client.{Client}
 use Rattle.iot_event.specs.declared.event.Event.TheVariants as events
 use Rattle.iot_machine.specs.Clients as clients
@@ -14,7 +14,7 @@ use Rattle.iot_machine.specs.Machine as machines
 use Rattle.iot_server_node.specs.Servers as servers
 use Rattle.iot_standing.specs.Kept.{ItemsStand}
 use Rattle.iot_laptop.specs.Laptops.{KeepsTrails, stamps_in}
-use Rattle.iot_standing.specs.States.{RunningStandsIfAny}
+use Rattle.iot_standing.specs.States.{RunStand}
 use Rattle.iot_machine.specs.Machine.{Commit}
 use Rattle.iot_judging.specs.Lists.{Follows}
 use Rattle.iot_exchange.specs.Scripts as exchange
@@ -223,17 +223,18 @@ LendsServer it m = servers.LendsServer it m.server m.requests
 -- it meets what those calls of a client ask for that look at it, or ask it for what it submits
 pub record IsReady {D : Type 0} (medium : Medium D) (place : ℕ) (it : Client D) : Type 0 where
   pub tied : IsTied medium it
-  pub begun : IsBegunIfAny (state_of it).running (live_of it)
+  pub begun : AreBegun (live_of it)
   pub place_is : place_of it ≡ place
   pub few : place ≤ 7
 
--- a client with the machine's held tree, view, queue and running transaction; it can be looked at, and asked for what it submits
+-- a client with the machine's held tree, view, queue and running transactions with their bases; it can be looked at, and asked for what
+-- it submits
 pub record IsClientOf {D : Type 0} (medium : Medium D) (it : Client D) (place : ℕ) (m : machines.Client) : Type 0 where
   pub alive : m.node.alive ≡ true
   pub held : (state_of it).held ≡ m.node.durable.held
   pub view : states.view (state_of it) ≡ clients.view m.node.durable
   pub queue : ItemsStand (state_of it).items (state_of it).held m.node.durable.items
-  pub running : RunningStandsIfAny (state_of it).running (live_of it) m.first m.node.durable.running
+  pub running : RunStand (state_of it).running (live_of it) m.first m.node.durable.running
   pub ready : IsReady medium place it
 
 -- none is lent of a client that is not declared, or is down

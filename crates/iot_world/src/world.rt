@@ -132,7 +132,7 @@ impl<D: Disk> World<D> {
     /// The client at this place, counted from 0 in order of declaration, if it is declared and alive. Its disk is the one after the
     /// server's and those of the clients before it, of those that `into_disks` gives back. Does not allocate.
     pub fn client(&self, place: u64) -> Option<&Client<D>>
-        // Its tree, its view, its queue and its running transaction are those of each machine for which the world stands. It can be
+        // Its tree, its view, its queue and its running transactions are those of each machine for which the world stands. It can be
         // looked at: it meets what `view`, `running`, `at_end` and `submission` of a client ask for.
         ensures lent { (m : Machine) → StandsFor D.medium self.now m
             → LendsClient D.medium (option_copied result) place m }
