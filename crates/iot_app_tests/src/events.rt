@@ -73,7 +73,48 @@ fn gives_tasks(rt: HostRuntime) -> Result<(), Fail> {
         return Err(Fail::new("no run"));
     };
     assert!(rt; matches!(task_at(hoard, 1), Some(Task::Hoard { .. })));
-    assert!(rt; matches!(task_at(step, 1), Some(Task::Step { count: 7 })));
+    let Some(
+        Task::Step {
+            count: 7,
+            transaction: None,
+        },
+    ) = task_at(step, 1)
+    else {
+        return Err(Fail::new("no step"));
+    };
+    Ok(())
+}
+
+/// Steps and ends that name their transaction, or do not.
+const NUMBERED: &[u8] =
+    b"client laptop\nstep laptop\nstep laptop 7 3\nend laptop 1000000\nend laptop";
+
+#[test]
+fn gives_the_number_of_a_transaction(rt: HostRuntime) -> Result<(), Fail> {
+    let events = parse(rt.alloc(), NUMBERED)?;
+    let [_, one, seven, named, least] = events.as_slice() else {
+        return Err(Fail::new("other events"));
+    };
+    for (event, want) in [(one, (1, None)), (seven, (7, Some(3)))] {
+        let Some(Task::Step { count, transaction }) = task_at(event, 0) else {
+            return Err(Fail::new("no step"));
+        };
+        assert!(rt; (*count, *transaction) == want);
+    }
+    for (event, want) in [(named, Some(1_000_000)), (least, None)] {
+        let Some(Task::End { transaction }) = task_at(event, 0) else {
+            return Err(Fail::new("no end"));
+        };
+        assert!(rt; *transaction == want);
+    }
+    for bad in [
+        b"client laptop\nend laptop 0".as_slice(),
+        b"client laptop\nend laptop 1000001",
+        b"client laptop\nstep laptop 1 0",
+        b"client laptop\nstep laptop 1 01",
+    ] {
+        assert!(rt; matches!(parse(rt.alloc(), bad), Err(EventFault::BadLine { line: 2 })));
+    }
     Ok(())
 }
 

@@ -28,13 +28,14 @@ const WEEK: &[u8] = b"client laptop\nclient desk\n\
 const RECORDS: u64 = 24;
 
 /// The body of a later checkpoint. The root alone is held, and is whole. Transaction 1 was of script `e`, which was run again and did
-/// nothing; transaction 2 is of script `e`, runs, and has made `/d`.
+/// nothing; transaction 2 is of script `e`, runs on what is held, and has made `/d`.
 const BODY: &[u8] = b"\0\0\0\0\0\0\0\x01\0\0\0\0\0\0\0\0\x01\
     \0\0\0\0\0\0\0\x01\
     \0\0\0\0\0\0\0\x01\0\0\0\0\0\0\0\x01e\0\0\0\0\0\0\x10\0\0\0\0\0\0\0\0\0\x01\x04\
     \0\0\0\0\0\0\0\x01e\0\0\0\0\0\0\x10\0\0\0\0\0\0\0\0\0\0\0\0\0\0\0\0\0\
     \0\0\0\0\0\0\0\0\0\0\0\0\0\0\0\0\
-    \x01\0\0\0\0\0\0\0\x02\0\0\0\0\0\0\0\x01e\x03\0\0\0\0\0\0\0\x01\
+    \0\0\0\0\0\0\0\x01\0\0\0\0\0\0\0\x02\0\0\0\0\0\0\0\x01e\x03\
+    \0\0\0\0\0\0\0\x01\0\0\0\0\0\0\0\0\x01\0\0\0\0\0\0\0\x01\
     \0\0\0\0\0\0\0\x02\x01\0\0\0\0\0\0\0\x01\0\0\0\0\0\0\0\x01d\x02\
     \x01\0\0\0\0\0\0\0\0\x03\x02\0\0\0\0\0\0\0\x01\0\0\0\0\0\0\0\x01d\0\0\0\0\0\0\0\0\
     \0\0\0\0\0\0\0\x02";
@@ -61,7 +62,7 @@ fn week(alloc: Global) -> Result<Image, Fail> {
         bytes: Vec::from_slice(alloc, disk.bytes())?,
         cell: 9,
         place: 43,
-        first: 93,
+        first: 100,
         records: RECORDS,
     })
 }
@@ -83,7 +84,7 @@ fn renew<D: Disk>(slots: &mut Slots<D>) -> Result<(), JournalFault>
 {
     slots.checkpoint(BODY)?;
     append(slots, b"\x0a")?;
-    append(slots, b"\x05")
+    append(slots, b"\x05\0\0\0\0\0\0\0\x02")
 }
 
 /// What it has after a checkpoint and two more records.
@@ -92,7 +93,7 @@ fn renewed(alloc: Global) -> Result<Image, Fail> {
     let place = bytes.len() as u64;
     let mut disk = MemDisk::of(alloc, bytes)?;
     disk.restart();
-    let Ok((mut slots, _)) = Slots::start(alloc, disk, *b"IOTSLOT1") else {
+    let Ok((mut slots, _)) = Slots::start(alloc, disk, *b"IOTSLOT2") else {
         return Err(Fail::new("no slots"));
     };
     renew(&mut slots)?;
@@ -220,7 +221,11 @@ fn each_damaged_byte_after_a_checkpoint_is_named(rt: HostRuntime) -> Result<(), 
             0 => Ok(0),
             1..=8 => Err(StartFault::Foreign),
             // Neither generation is the one after the other, or no checkpoint is at the place that the cell names.
-            10..=17 | 27..=42 => Err(StartFault::Damaged { at: 26 }),
+            10..=17 | 27..=41 => Err(StartFault::Damaged { at: 26 }),
+            // It names a place in the checkpoint, where a part of the body reads as a checkpoint whose body spells nothing.
+            42 => Err(StartFault::Damaged {
+                at: image.place ^ 165,
+            }),
             // The cell in force is closed, and what was there before the checkpoint counts again.
             26 => Ok(RECORDS),
             _ => Ok(image.records),

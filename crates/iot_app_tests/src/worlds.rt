@@ -79,11 +79,11 @@ fn in_view<D: Disk>(world: &World<D>, place: u64, path: &Path) -> Option<Kind>
     Some(client.view().kind(path))
 }
 
-/// The number of the transaction that runs there, if one does.
+/// The least number of the transactions that run there, if one does.
 fn running<D: Disk>(world: &World<D>, place: u64) -> Option<u64>
     requires { IsWorldOfSome D.medium world.now }
 {
-    let running = world.client(place)?.running()?;
+    let running = world.client(place)?.running().first()?;
     Some(running.tid)
 }
 
@@ -101,18 +101,18 @@ fn traffic<D: Disk>(world: &World<D>) -> Option<(u64, u64, u64)> {
     Some((traffic.requests, traffic.received, traffic.sent))
 }
 
-/// A laptop that commits a file, and goes on without its server: what it does next waits, and what it does then runs.
+/// A laptop that commits a file, and goes on without its server: what it does next waits, and then two run.
 const EVENTS: &[u8] = b"client laptop\n\
     script one {\nwrite /one 1\n}\n\
     script two {\nwrite /two 2\n}\n\
     script three {\nwrite /three 3\necho done\n}\n\
     run laptop one abort\nhoard laptop /\ndisconnect laptop\n\
-    run laptop two abort\nbegin laptop three abort\nstep laptop\n";
+    run laptop two abort\nbegin laptop three abort\nbegin laptop three abort\nstep laptop 1 4\n";
 
 /// What this says.
 const SAID: &[u8] = b"client laptop\n\
     end laptop.1\ncommit 1 laptop.1 certified\nsettled laptop.1 1\nhoard laptop /\ndisconnect laptop\n\
-    end laptop.2\npending laptop.2\nbegin laptop.3 three second\nstep laptop.3 1 acts\n";
+    end laptop.2\npending laptop.2\nbegin laptop.3 three second\nbegin laptop.4 three second\nstep laptop.4 1 acts\n";
 
 #[test]
 fn a_world_is_looked_at(rt: HostRuntime) -> Result<(), Fail> {
@@ -124,15 +124,15 @@ fn a_world_is_looked_at(rt: HostRuntime) -> Result<(), Fail> {
     };
     assert_eq!(rt; said.as_bytes(), SAID);
 
-    // The server has what was committed. The client has what waits and what runs, too.
-    for (name, there) in [
-        (b"/one".as_slice(), Kind::IsFile),
-        (b"/two", Kind::Absent),
-        (b"/three", Kind::Absent),
+    // The server has what was committed. The client sees what waits, too. What runs is seen by its own script alone.
+    for (name, there, seen) in [
+        (b"/one".as_slice(), Kind::IsFile, Kind::IsFile),
+        (b"/two", Kind::Absent, Kind::IsFile),
+        (b"/three", Kind::Absent, Kind::Absent),
     ] {
         let path = Path::parse(alloc, name)?;
         assert!(rt; on_server(&world, &path) == Some(there));
-        assert!(rt; in_view(&world, 0, &path) == Some(Kind::IsFile));
+        assert!(rt; in_view(&world, 0, &path) == Some(seen));
     }
     assert!(rt; waiting(&world, 0) == 1 && running(&world, 0) == Some(3));
     assert!(rt; waiting(&world, 1) == 0 && running(&world, 1).is_none());

@@ -1,11 +1,11 @@
 //! A server and a client in a program of their own: over a disk and a transport that are its own.
 ghost use Rattle.std.specs.Prelude.{◌≡◌, ◌≤◌, IfOk, OnOk};
 ghost use Rattle.iot_server.specs.Servers.{IsSynced};
-ghost use Rattle.iot_client.specs.Ties.{IsTied, place_of, state_of};
+ghost use Rattle.iot_client.specs.Ties.{AreBegun, IsTied, live_of, place_of, state_of};
 ghost use Rattle.iot_client.specs.Calls.{HeadIsIfAny};
 ghost use Rattle.iot_kept.specs.Changes.{IsSubmitted};
 
-use iot_client::{Ask, Client, Noted};
+use iot_client::{Ask, Client, Ended, Noted};
 use iot_disk::{Disk, DiskFault, MemDisk, Pick};
 use iot_lang::{Script, parse};
 use iot_server::{Server, ServerFault};
@@ -118,6 +118,17 @@ fn hold<D: Disk>(alloc: Global, client: &mut Client<D>, line: &mut Line) -> Resu
     Ok(())
 }
 
+/// What a start has found running goes on no further: it waits, with the acts that still hold. Then all that run were begun since.
+fn cut_all<D: Disk>(alloc: Global, client: &mut Client<D>) -> Result<(), Fail>
+    requires tied { IsTied D.medium client.old }
+    ensures tied { OnOk result (IsTied D.medium client.new) }
+    ensures begun { OnOk result (AreBegun (live_of client.new)) }
+    ensures place { OnOk result (place_of client.new ≡ place_of client.old) }
+{
+    'cuts: while let Some(_) = client.cut(alloc)? {}
+    Ok(())
+}
+
 /// The client runs a script on what it holds. The transaction is second class: it asks the server for nothing, and waits when it ends.
 fn run<D: Disk>(
     alloc: Global,
@@ -126,19 +137,22 @@ fn run<D: Disk>(
     script: Rc<Script>,
 ) -> Result<(), Fail>
     requires tied { IsTied D.medium client.old }
+    requires begun { AreBegun (live_of client.old) }
     requires place { place_of client.old ≤ 7 }
     ensures tied { OnOk result (IsTied D.medium client.new) }
     ensures place { OnOk result (place_of client.new ≤ 7) }
 {
-    client.begin(alloc, name, script, OnConflict::Abort, false)?;
+    let number = client.begin(alloc, name, script, OnConflict::Abort, false)?;
     'steps: for _ in 0..ACT_LIMIT {
-        if client.at_end() {
+        if client.at_end(number) {
             break;
         }
-        client.step(alloc)?;
+        client.step(alloc, number)?;
     }
-    client.end(alloc)?;
-    Ok(())
+    match client.end(alloc, number)? {
+        Ended::Joined { .. } => Ok(()),
+        Ended::Again { .. } => Err(Fail::new("another one has ended before it")),
+    }
 }
 
 /// The client submits the first transaction that waits.
@@ -189,6 +203,7 @@ fn a_client_commits_at_a_server(rt: HostRuntime) -> Result<(), Fail> {
     serve(alloc, &mut server, &mut line)?;
     hold(alloc, &mut client, &mut line)?;
     let script = Rc::new(alloc, parse(alloc, b"mkdir /d\n")?)?;
+    cut_all(alloc, &mut client)?;
     run(alloc, &mut client, &Name::parse(b"make")?, script)?;
     submit(alloc, &client, &mut line)?;
 

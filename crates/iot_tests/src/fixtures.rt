@@ -25,10 +25,10 @@ pub(crate) fn tree(rt: &impl Abort, alloc: Global, text: &str) -> Result<Tree, N
 }
 
 /// What a client's disk has on which nothing but its start was done: the cells, and a checkpoint of a client that knows nothing.
-pub(crate) const CLIENT_STARTED: &[u8] = b"\xa5IOTSLOT1\xa5\0\0\0\0\0\0\0\x01\x80\0\0\0\0\0\0\x2b\
+pub(crate) const CLIENT_STARTED: &[u8] = b"\xa5IOTSLOT2\xa5\0\0\0\0\0\0\0\x01\x80\0\0\0\0\0\0\x2b\
     \0\0\0\0\0\0\0\0\0\0\0\0\0\0\0\0\0\
-    \0\0\0\0\0\0\0\x22\0\0\0\0\0\0\0\x01\0\0\0\0\0\0\0\0\x03\0\0\0\0\0\0\0\0\0\0\0\0\0\0\0\0\0\
-    \0\0\0\0\0\0\0\0";
+    \0\0\0\0\0\0\0\x29\0\0\0\0\0\0\0\x01\0\0\0\0\0\0\0\0\x03\0\0\0\0\0\0\0\0\0\0\0\0\0\0\0\0\
+    \0\0\0\0\0\0\0\0\0\0\0\0\0\0\0\0";
 
 /// That with records of these bodies, and of one more.
 pub(crate) fn recorded(

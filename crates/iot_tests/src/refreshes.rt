@@ -48,7 +48,7 @@ const WITHOUT_ROOT: &[u8] = b"\x01\0\0\0\0\0\0\0\x01\0\0\0\0\0\0\0\x01\0\0\0\0\0
 /// The records of a client whose transaction 1, of script `e`, is in conflict, and is to be run again.
 const CONFLICT: &[&[u8]] = &[
     b"\x02\0\0\0\0\0\0\0\x01\0\0\0\0\0\0\0\x01e\x01",
-    b"\x05",
+    b"\x05\0\0\0\0\0\0\0\x01",
     b"\x07",
 ];
 

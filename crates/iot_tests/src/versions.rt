@@ -68,10 +68,6 @@ const ASKS_A_MODE: [u8; 204] = *b"\xa5IOTSLOT1\xa5\0\0\0\0\0\0\0\x01\x80\0\0\0\0
     \0\0\0\0\0\0\0\0\0\0\0\0\0\0\0\0\
     \0";
 
-/// A client's record in version 1: it brings `/` and `/f`, with `hi` in it and without a mode.
-const HELD: &[u8] = b"\x01\0\0\0\0\0\0\0\x02\0\0\0\0\0\0\0\0\x01\
-    \0\0\0\0\0\0\0\x01\0\0\0\0\0\0\0\x01f\x02\0\0\0\0\0\0\0\x02hi";
-
 #[test]
 fn an_old_disk_stands_for_a_state_and_is_only_read(rt: HostRuntime) -> Result<(), Fail> {
     let alloc = rt.alloc();
@@ -161,12 +157,17 @@ fn version_1_knows_no_modes(rt: HostRuntime) -> Result<(), Fail> {
 }
 
 #[test]
-fn a_client_reads_both(rt: HostRuntime) -> Result<(), Fail> {
+fn a_client_has_version_2_alone(rt: HostRuntime) -> Result<(), Fail> {
     let alloc = rt.alloc();
-    for (mark, want) in [(0, Ok(1)), (0x80, Err(StartFault::Damaged { at: 93 }))] {
-        let mut bytes = recorded(alloc, &[HELD], None)?;
-        if let Some(byte) = bytes.get_mut(18) {
-            *byte = mark;
+    // A disk from before has another header; and no cell with this one is of version 1.
+    for (at, byte, want) in [
+        (18, 0x80, Ok(0)),
+        (8, b'1', Err(StartFault::Foreign)),
+        (18, 0, Err(StartFault::Damaged { at: 43 })),
+    ] {
+        let mut bytes = recorded(alloc, &[], None)?;
+        if let Some(old) = bytes.get_mut(at) {
+            *old = byte;
         }
         let mut disk = MemDisk::of(alloc, bytes)?;
         disk.restart();
