@@ -26,7 +26,7 @@ DARK = {'ground': '#161b22', 'pale': '#2b333d', 'fault': '#47241f', 'ink': '#e3e
         'red': '#ff8577', 'green': '#5cc98a', 'amber': '#e5a93c', 'violet': '#cf9be6', 'blue': '#76b7ec'}
 STAGES = {'waiting': 'amber', 'conflict': 'red', 'manual': 'violet', 'resolved': 'blue'}
 KINDS = {'commit': 'green', 'settled': 'green', 'conflict': 'red', 'abort': 'red', 'away': 'red', 'crash': 'red', 'stopped': 'red',
-         'cut': 'red', 'pending': 'amber', 'manual': 'violet', 'resolve': 'blue', 'output': 'grey', 'dir': 'grey', 'file': 'grey',
+         'cut': 'red', 'again': 'red', 'pending': 'amber', 'manual': 'violet', 'resolve': 'blue', 'output': 'grey', 'dir': 'grey', 'file': 'grey',
          '..': 'grey'}
 KEY = [('up', 'connected'), ('away', 'link down'), ('down', 'crashed'), ('runs', 'runs'), ('waiting', 'waits'),
        ('conflict', 'in conflict'), ('manual', 'waits for a decision'), ('resolved', 'resolved'), ('commit', 'commit'),
@@ -205,9 +205,9 @@ class Picture:
         self.width = max(self.said_at + said * CHAR, sum(KEY_WIDTHS)) + EDGE
 
     def room(self, name):
-        """The width of what waits at this client at the same time."""
-        waiting = [row.lanes[name][2] for row in self.rows if name in row.lanes]
-        return SLOT * max((slot + 1 for items in waiting for slot, _ in items.values()), default=0)
+        """The width of what stands beside this client's lane at the same time."""
+        beside = [one for row in self.rows if name in row.lanes for ones in row.lanes[name][1:] for one in ones.values()]
+        return SLOT * max((slot + 1 for slot, *_ in beside if slot is not None), default=0)
 
     def place_rows(self):
         self.tops, self.captions = [], []
@@ -255,8 +255,8 @@ class Picture:
         states = list(stretches([lane and lane[0] for lane in lanes]))
         for state, start, end in states:
             self.draw_state(x, self.turn(name, start), self.turn(name, end) if end < len(lanes) else self.foot, state)
-        for running, start, end in stretches([lane and lane[1] for lane in lanes]):
-            self.draw_running(x, self.turn(name, start), self.turn(name, end), *running)
+        for number in dict.fromkeys(number for lane in lanes if lane for number in lane[1]):
+            self.draw_running(name, number, [lane[1].get(number) if lane else None for lane in lanes])
         for state, start, end in states:
             if state == 'down':
                 self.draw_stop(x, self.turn(name, start), self.turn(name, end))
@@ -281,9 +281,15 @@ class Picture:
     def draw_stop(self, x, y, to_y):
         self.put(line(x, y, x, to_y, 'red', 2, stroke_dasharray='1.5 5'))
 
-    def draw_running(self, x, y, to_y, number, first):
+    def draw_running(self, name, number, runs):
+        """A box on the lane, or beside it if another one runs there; one that starts again has another box from then on."""
+        for (slot, first, _), start, end in stretches(runs):
+            x, width = (self.x[name], 18) if slot is None else (self.slot(name, slot), 14)
+            self.draw_run(x, self.turn(name, start), self.turn(name, end), number, first, width)
+
+    def draw_run(self, x, y, to_y, number, first, width=18):
         dashes = {} if first == 'first' else {'stroke_dasharray': '3 2'}
-        self.put(box(x, y, 18, max(to_y - y, 14), 'ground lane-line', stroke_width=1.5, **dashes))
+        self.put(box(x, y, width, max(to_y - y, 14), 'ground lane-line', stroke_width=1.5, **dashes))
         self.put(text(x, y + 14.5, number, 'lane number'))
 
     def draw_waiting(self, name, number, items):
@@ -350,7 +356,7 @@ class Picture:
                 if what == 'down':
                     self.draw_stop(x + 8, y - 12, y + 6)
             elif what == 'runs':
-                self.draw_running(x + 8, y - 11, y + 5, '', 'first')
+                self.draw_run(x + 8, y - 11, y + 5, '', 'first')
             elif what == 'commit':
                 self.draw_commit(x + 6, y - 3, '1')
             elif what == 'lost':

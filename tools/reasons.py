@@ -9,7 +9,7 @@ from statements import STATEMENTS, block_of, statement_fault
 
 LINE_LIMIT = 4096
 CLIENT_LIMIT, SCRIPT_LIMIT, DEPTH_LIMIT = 8, 256, 16
-LIMITS = {'k': 100_000, 'i': 1_000_000, 'K': 1_000_000}
+LIMITS = {'k': 100_000, 'i': 1_000_000, 'K': 1_000_000, 'T': 1_000_000}
 OPTIONS = 'reexec, resolver S, abort or manual'
 SPELLED = (('LOSS', 'request'), ('LOSS', 'reply'), ('NODE', 'server'), ('NODE', 'C'))
 
@@ -23,8 +23,8 @@ FORMS = {
     'hoard': ['hoard C P'],
     'refresh': ['refresh C'],
     'begin': ['begin C S OPTION', 'begin C S resolver S'],
-    'step': ['step C', 'step C k'],
-    'end': ['end C'],
+    'step': ['step C', 'step C k', 'step C k T'],
+    'end': ['end C', 'end C T'],
     'sync': ['sync C'],
     'repair': ['repair C S'],
     'discard': ['discard C'],

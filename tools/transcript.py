@@ -42,15 +42,24 @@ class Item:
 
 
 @dataclass
+class Run:
+    """A transaction that runs: on its client's lane, or in a slot beside it. It may have started again."""
+
+    number: str
+    option: str
+    first: bool
+    slot: int | None
+    again: int = 0
+
+
+@dataclass
 class Node:
     name: str
     alive: bool = True
     up: bool = True
     loss: str = ''
     last: int = 0
-    running: str = ''
-    option: str = ''
-    first: bool = False
+    running: list = field(default_factory=list)
     queue: list = field(default_factory=list)
 
     # What is to be done at its restart, by whether the record in doubt was kept.
@@ -59,19 +68,37 @@ class Node:
     def snapshot(self):
         """How the lane looks from here on: its state, what runs on it, and what waits beside it."""
         state = 'down' if not self.alive else 'up' if self.up else 'away'
-        running = (self.running, 'first' if self.first else 'second') if self.running else None
+        running = {run.number: (run.slot, 'first' if run.first else 'second', run.again) for run in self.running}
         return state, running, {item.number: (item.slot, item.stage) for item in self.queue}
 
-    def begin(self, option):
-        self.last += 1
-        self.running, self.option = str(self.last), option
+    def free_slot(self):
+        taken = {one.slot for one in [*self.queue, *self.running]}
+        return next(n for n in range(len(taken) + 1) if n not in taken)
 
-    def wait(self):
+    def begin(self, option, first=False):
+        """The next transaction runs, on the lane unless another one is there."""
+        self.last += 1
+        slot = self.free_slot() if any(run.slot is None for run in self.running) else None
+        self.running.append(Run(str(self.last), option, first, slot))
+        return self.running[-1]
+
+    def meant(self, number):
+        """The running transaction with this number, or without one the first."""
+        return [run for run in self.running if number in ('', run.number)][0]
+
+    def yields(self, run):
+        """It is second class from now on, if others wait."""
+        run.first = run.first and not self.queue
+
+    def all_second(self):
+        for run in self.running:
+            run.first = False
+
+    def wait(self, run):
         """What ran waits."""
-        taken = {item.slot for item in self.queue}
-        slot = next(n for n in range(len(taken) + 1) if n not in taken)
-        self.queue.append(Item(self.running, self.option, slot))
-        self.running = ''
+        slot = self.free_slot() if run.slot is None else run.slot
+        self.running.remove(run)
+        self.queue.append(Item(run.number, run.option, slot))
 
 
 @dataclass
@@ -225,7 +252,8 @@ class Day:
         self.take('connect ')
 
     def on_disconnect(self, client, _):
-        client.up = client.first = False
+        client.up = False
+        client.all_second()
         self.take('disconnect ')
 
     def on_lose(self, client, words):
@@ -249,10 +277,10 @@ class Day:
         word = self.take(f'restart {node.name}').split()[-1]
         doubt, node.doubt = node.doubt, nothing_more
         doubt(word == 'kept')
-        if node.running:
-            self.halts(node, lambda kept: kept and node.wait())
-            self.take('cut ')
-            node.wait()
+        for run in list(node.running):
+            self.halts(node, lambda kept, run=run: kept and node.wait(run))
+            self.take(f'cut {node.name}.{run.number} ')
+            node.wait(run)
 
     def on_hoard(self, client, words):
         self.ask(client, words[0], ' '.join(words))
@@ -261,12 +289,14 @@ class Day:
         self.ask(client, words[0], ' '.join(words))
 
     def on_begin(self, client, words):
-        client.first = not client.queue and self.exchange(client, 'refresh') == 'both'
-        self.halts(client, lambda _: self.cuts(client) and client.begin(words[3]))
-        client.begin(words[3])
-        self.take(f'begin {client.name}.{client.running} {words[2]} {"first" if client.first else "second"}')
+        first = not client.queue and self.exchange(client, 'refresh') == 'both'
+        self.halts(client, lambda _: self.named_next(client, client.last + 1).startswith('cut ') and client.begin(words[3]))
+        run = client.begin(words[3], first)
+        self.take(f'begin {client.name}.{run.number} {words[2]} {"first" if first else "second"}')
 
-    def on_step(self, client, _):
+    def on_step(self, client, words):
+        run = client.meant(words[3] if len(words) > 3 else '')
+        client.yields(run)
         while self.next().startswith('fetch '):
             self.row(client.name)
             arrived = self.exchange(client, 'fetch') == 'both'
@@ -275,10 +305,10 @@ class Day:
                 raise Strange(f'line {self.at} of the output: the link says otherwise: {line!r}')
         self.row(client.name)
         self.halts(client)
-        self.take(f'step {client.name}.{client.running} ')
+        self.take(f'step {client.name}.{run.number} ')
 
-    def on_end(self, client, _):
-        self.end(client)
+    def on_end(self, client, words):
+        self.end(client, client.meant(words[2] if len(words) > 2 else ''))
 
     def on_sync(self, client, _):
         self.sync(client)
@@ -294,13 +324,13 @@ class Day:
         if client.up:
             self.syncs(client)
         self.row(client.name)
-        client.first = not client.queue and self.exchange(client, 'refresh') == 'both'
+        first = not client.queue and self.exchange(client, 'refresh') == 'both'
         self.halts(client, lambda kept: self.ran(client, words[3], kept))
-        client.begin(words[3])
+        run = client.begin(words[3], first)
         if self.next() == 'not at end':
             self.take()
         else:
-            self.end(client)
+            self.end(client, run)
 
     def on_repair(self, client, _):
         self.halts(client, lambda kept: kept and client.queue[0].repair())
@@ -320,9 +350,9 @@ class Day:
     def on_queue(self, client, _):
         for item in client.queue:
             self.take(f'item {client.name}.{item.number} ')
-        if client.running:
-            self.take(f'running {client.name}.{client.running} ')
-        elif not client.queue:
+        for run in client.running:
+            self.take(f'running {client.name}.{run.number} ')
+        if not client.queue and not client.running:
             self.take('empty')
 
     def on_reads(self, _, __):
@@ -355,7 +385,8 @@ class Day:
         if passage in ('both', 'reply') and self.next() == 'server stopped':
             passage, client.up, client.loss = 'stopped', False, ''
             self.stop(self.server, lambda kept: kept and self.commit_kept())
-        client.first = client.first and passage == 'both'
+        if passage != 'both':
+            client.all_second()
         if passage != 'away':
             self.rows[-1].exchange = (client.name, what, passage)
         return passage
@@ -365,19 +396,18 @@ class Day:
         self.row('server')
         self.commit()
 
-    def cuts(self, client):
-        """Whether a transaction of the client is cut now."""
-        return self.next().startswith(f'cut {client.name}.')
+    def named_next(self, client, number):
+        """The next line that names this transaction of the client, if one does."""
+        name = re.escape(f'{client.name}.{number}')
+        return next((line for line in self.lines[self.at:] if re.search(rf'(?<!\S){name}(?!\S)', line)), '')
 
     def ran(self, client, option, kept):
         """What is left of a `run` in which the client has stopped. If that is not said now, it is where its transaction is named next."""
-        name = re.escape(f'{client.name}.{client.last + 1}')
-        later = next((line for line in self.lines[self.at:] if re.search(rf'\b{name}\b', line)), '')
-        if self.cuts(client):
+        later = self.named_next(client, client.last + 1)
+        if later.startswith('cut '):
             client.begin(option)
         elif kept and later and not later.startswith(('begin ', 'end ')):
-            client.begin(option)
-            client.wait()
+            client.wait(client.begin(option))
 
     def ask(self, client, what, line):
         self.row(client.name)
@@ -386,12 +416,18 @@ class Day:
             self.halts(client)
         self.take(line if arrived else 'away')
 
-    def end(self, client):
-        tid = f'{client.name}.{client.running}'
-        self.halts(client, lambda kept: kept and client.wait())
+    def end(self, client, run):
+        """It waits, or starts again."""
+        tid = f'{client.name}.{run.number}'
+        client.yields(run)
+        self.halts(client, lambda kept: kept and not self.named_next(client, run.number).startswith('cut ') and client.wait(run))
+        if self.next().startswith(f'again {tid} '):
+            self.take()
+            run.again += 1
+            return
         self.take(f'end {tid}')
-        first = client.first
-        client.wait()
+        first = run.first
+        client.wait(run)
         if not first or self.sync(client) == 'away':
             self.take(f'pending {tid}')
             self.output()
