@@ -18,6 +18,7 @@ DIRECTORIES = 16
 FILES_IN_EACH = 250
 ROUNDS = 4
 QUEUED_FILES = 250
+RUNNING = 4
 RECORDS_OF_A_RUN = 100
 PARTS = 256
 BYTES_OF_A_PART = 256
@@ -142,6 +143,16 @@ def acts(size):
     return Work(lines + ['step laptop'] * number, 'steps', number, len(lines))
 
 
+def running(size):
+    """Four transactions of more and more acts, stepped in turn, on a tree that stays small."""
+    number = 250 * size
+    lines = ['client laptop', *script('init', ['write /f x']), *script('work', ['write /f y'] * number), run('init')]
+    lines += ['begin laptop work abort'] * RUNNING
+    # The first transaction was that of `init`.
+    turn = [f'step laptop 1 {2 + place}' for place in range(RUNNING)]
+    return Work(lines + turn * number, 'steps', RUNNING * number, len(lines))
+
+
 def restarts(size):
     """A client that crashes and comes back with more and more records on its disk."""
     runs = 10 * size
@@ -199,5 +210,7 @@ def conflicts(size):
 
 
 # The cases in the order of the table, and those that need no more than `mkdir`, `write` and `cat`.
-CASES = [transactions, tree, loops, moves, text, journal, clients, steps, acts, queue, looking, restarts, rereads, submissions, conflicts]
+CASES = [
+    transactions, tree, loops, moves, text, journal, clients, steps, acts, running, queue, looking, restarts, rereads, submissions, conflicts,
+]
 FIRST = [transactions, tree]
