@@ -12,9 +12,9 @@ use Rattle.clap.specs.Lexer.{long_of, long_of_rest, name_and_value, short_of}
 use Rattle.clap.specs.Walk.{Text, has_row}
 use Rattle.iot_words.specs.Jobs.{chosen, generate_of, job_of, named, without_end}
 use Rattle.iot_words.specs.declared.jobs.Job.{Job}
-use Rattle.iot_words.specs.declared.jobs.Job.TheVariants.{Run, Image, Upgrade}
+use Rattle.iot_words.specs.declared.jobs.Job.TheVariants.{Run, Image, Upgrade, Audit}
 use Rattle.iot_words.specs.declared.jobs.Run.TheVariants.{Transcript, Json, Generate, Save}
-use Rattle.iot_words.proofs.Uses.{Arg, Flag, arg_kind, arg_name, arg_named, args, image, json, number, save, the, upgrade}
+use Rattle.iot_words.proofs.Uses.{Arg, Flag, arg_kind, arg_name, arg_named, args, audit, image, json, number, save, the, upgrade}
 use Rattle.iot_words.proofs.Uses.{Kind, Use, Wait, add, bind, by_kind, ends, flag, gen, given, is_last, kind, name_kind}
 use Rattle.iot_words.proofs.Uses.{name_of, names, nothing, plain, row, short_kind}
 use Rattle.iot_words.proofs.Uses.{settle, spelled, unknown, wanting, wants}
@@ -137,6 +137,7 @@ flag_job json = Run Json
 flag_job save = Run Save
 flag_job image = Image
 flag_job upgrade = Upgrade
+flag_job audit = Audit
 
 -- a flag's word names its job if it is alone
 alone : (f : Flag) → (kind (45 ∷ 45 ∷ name_of f) ≡ names (flag f)) × (named ((45 ∷ 45 ∷ name_of f) ∷ []) ≡ Some (flag_job f))
@@ -145,6 +146,7 @@ alone json = (refl, refl, λ next. refl)
 alone save = (refl, refl, λ next. refl)
 alone image = (refl, refl, λ next. refl)
 alone upgrade = (refl, refl, λ next. refl)
+alone audit = (refl, refl, λ next. refl)
 
 -- ---- words that name nothing
 
@@ -164,7 +166,7 @@ unnamed word no_use no_wants = record {
 }
 
 named-Unnamed : (word : Text) (more : List Text) → Unnamed word → named (word ∷ more) ≡ None
-named-Unnamed word [] un = rw (un.flags json, un.flags save, un.flags image, un.flags upgrade, un.prefix) refl
+named-Unnamed word [] un = rw (un.flags json, un.flags save, un.flags image, un.flags upgrade, un.flags audit, un.prefix) refl
 named-Unnamed word (next ∷ []) un = rw un.gen refl
 named-Unnamed word (next ∷ other ∷ more) un = refl
 
@@ -406,20 +408,22 @@ job_is (word ∷ rest) = first_kind word rest (kind word) refl (word_is word)
 -- ---- the job by flags
 
 abbrev every : (Flag → Bool) → Bool
-every p = p json && (p save && (p image && p upgrade))
+every p = p json && (p save && (p image && (p upgrade && p audit)))
 
 every_at : (p : Flag → Bool) → every p ≡ true → (f : Flag) → p f ≡ true
 every_at p e f =
-    let first = and_parts (p json) (p save && (p image && p upgrade)) e in
-    let second = and_parts (p save) (p image && p upgrade) first.1 in
-    let third = and_parts (p image) (p upgrade) second.1 in
-    go f first.0 second.0 third.0 third.1
+    let first = and_parts (p json) (p save && (p image && (p upgrade && p audit))) e in
+    let second = and_parts (p save) (p image && (p upgrade && p audit)) first.1 in
+    let third = and_parts (p image) (p upgrade && p audit) second.1 in
+    let fourth = and_parts (p upgrade) (p audit) third.1 in
+    go f first.0 second.0 third.0 fourth.0 fourth.1
   where
-    go : (f : Flag) → p json ≡ true → p save ≡ true → p image ≡ true → p upgrade ≡ true → p f ≡ true
-    go json j s i u = j
-    go save j s i u = s
-    go image j s i u = i
-    go upgrade j s i u = u
+    go : (f : Flag) → p json ≡ true → p save ≡ true → p image ≡ true → p upgrade ≡ true → p audit ≡ true → p f ≡ true
+    go json j s i u a = j
+    go save j s i u a = s
+    go image j s i u a = i
+    go upgrade j s i u a = u
+    go audit j s i u a = a
 
 abbrev both : (Bool → Bool) → Bool
 both p = p true && p false
@@ -430,14 +434,17 @@ both_at p e false = (and_parts (p true) (p false) e).1
 
 -- whether there is no job, by which other flags are given
 abbrev NoneFor : Type 0
-NoneFor = (json save image upgrade : Bool) → Bool
+NoneFor = (json save image upgrade audit : Bool) → Bool
 
 abbrev always : NoneFor → Bool
-always p = both (λ j. both (λ s. both (λ i. both (p j s i))))
+always p = both (λ j. both (λ s. both (λ i. both (λ u. both (p j s i u)))))
 
-always_at : (p : NoneFor) → always p ≡ true → (j s i u : Bool) → p j s i u ≡ true
-always_at p e j s i = both_at (p j s i) (both_at (λ i. both (p j s i)) (both_at (λ s. both (λ i. both (p j s i)))
-    (both_at (λ j. both (λ s. both (λ i. both (p j s i)))) e j) s) i)
+always_at : (p : NoneFor) → always p ≡ true → (j s i u a : Bool) → p j s i u a ≡ true
+always_at p e j s i u =
+    let for_j = both_at (λ j. both (λ s. both (λ i. both (λ u. both (p j s i u))))) e j in
+    let for_s = both_at (λ s. both (λ i. both (λ u. both (p j s i u)))) for_j s in
+    let for_i = both_at (λ i. both (λ u. both (p j s i u))) for_s i in
+    both_at (p j s i u) (both_at (λ u. both (p j s i u)) for_i u)
 
 no_job : (job : Option Job) → is_none job ≡ true → None ≡ job
 no_job None e = refl
@@ -445,24 +452,26 @@ no_job (Some job) e = absurd (false≢true e)
 
 -- whether there is no job with this flag
 abbrev refuses : Flag → Option Text → NoneFor
-refuses f text j s i u = is_none (chosen (bytes_eq (name_of f) (codes "json") || j) (bytes_eq (name_of f) (codes "save") || s)
-    (bytes_eq (name_of f) (codes "image") || i) (bytes_eq (name_of f) (codes "upgrade") || u) text)
+refuses f text j s i u a = is_none (chosen (bytes_eq (name_of f) (codes "json") || j) (bytes_eq (name_of f) (codes "save") || s)
+    (bytes_eq (name_of f) (codes "image") || i) (bytes_eq (name_of f) (codes "upgrade") || u) (bytes_eq (name_of f) (codes "audit") || a)
+    text)
 
 abbrev refuses_two : Flag → Flag → Option Text → NoneFor
-refuses_two f g text j s i u = refuses f text (bytes_eq (name_of g) (codes "json") || j) (bytes_eq (name_of g) (codes "save") || s)
-    (bytes_eq (name_of g) (codes "image") || i) (bytes_eq (name_of g) (codes "upgrade") || u)
+refuses_two f g text j s i u a = refuses f text (bytes_eq (name_of g) (codes "json") || j) (bytes_eq (name_of g) (codes "save") || s)
+    (bytes_eq (name_of g) (codes "image") || i) (bytes_eq (name_of g) (codes "upgrade") || u) (bytes_eq (name_of g) (codes "audit") || a)
 
-flag_and_gen : (f : Flag) (v : Text) (j s i u : Bool) → refuses f (Some v) j s i u ≡ true
+flag_and_gen : (f : Flag) (v : Text) (j s i u a : Bool) → refuses f (Some v) j s i u a ≡ true
 flag_and_gen f v = always_at (refuses f (Some v)) (every_at (λ f. always (refuses f (Some v))) refl f)
 
-two_flags : (f g : Flag) → bytes_eq (name_of f) (name_of g) ≡ false → (text : Option Text) (j s i u : Bool)
-    → refuses_two f g text j s i u ≡ true
+two_flags : (f g : Flag) → bytes_eq (name_of f) (name_of g) ≡ false → (text : Option Text) (j s i u a : Bool)
+    → refuses_two f g text j s i u a ≡ true
 two_flags f g apart text = always_at (refuses_two f g text) (rw apart at
     (every_at (λ g. bytes_eq (name_of f) (name_of g) || always (refuses_two f g text))
     (every_at (λ f. every (λ g. bytes_eq (name_of f) (name_of g) || always (refuses_two f g text))) refl f) g))
 
 abbrev chosen_of : List Use → Option Job
-chosen_of us = chosen (has (codes "json") us) (has (codes "save") us) (has (codes "image") us) (has (codes "upgrade") us) (gen_in us)
+chosen_of us = chosen (has (codes "json") us) (has (codes "save") us) (has (codes "image") us) (has (codes "upgrade") us)
+    (has (codes "audit") us) (gen_in us)
 
 pub chosen_is : (us : List Use) → Apart us → pick (Some us) ≡ chosen_of us
 chosen_is [] apart = refl
@@ -470,8 +479,9 @@ chosen_is (flag json ∷ []) apart = refl
 chosen_is (flag save ∷ []) apart = refl
 chosen_is (flag image ∷ []) apart = refl
 chosen_is (flag upgrade ∷ []) apart = refl
+chosen_is (flag audit ∷ []) apart = refl
 chosen_is (gen v ∷ []) apart = refl
-chosen_is (flag f ∷ flag g ∷ us) apart = no_job (chosen_of (flag f ∷ flag g ∷ us)) (two_flags f g apart (gen_in us) _ _ _ _)
-chosen_is (flag f ∷ gen v ∷ us) apart = no_job (chosen_of (flag f ∷ gen v ∷ us)) (flag_and_gen f v _ _ _ _)
-chosen_is (gen v ∷ flag f ∷ us) apart = no_job (chosen_of (gen v ∷ flag f ∷ us)) (flag_and_gen f v _ _ _ _)
+chosen_is (flag f ∷ flag g ∷ us) apart = no_job (chosen_of (flag f ∷ flag g ∷ us)) (two_flags f g apart (gen_in us) _ _ _ _ _)
+chosen_is (flag f ∷ gen v ∷ us) apart = no_job (chosen_of (flag f ∷ gen v ∷ us)) (flag_and_gen f v _ _ _ _ _)
+chosen_is (gen v ∷ flag f ∷ us) apart = no_job (chosen_of (gen v ∷ flag f ∷ us)) (flag_and_gen f v _ _ _ _ _)
 chosen_is (gen v ∷ gen w ∷ us) apart = absurd cc

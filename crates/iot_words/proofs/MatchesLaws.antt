@@ -14,8 +14,8 @@ use Rattle.clap.specs.Walk.{Row, Text, Held, first_of, has_row, more_values, one
 use Rattle.clap.specs.declared.builder.value_parser.Reading.TheVariants.{AsWritten}
 use Rattle.clap.specs.declared.parser.matches.ValueSource.TheVariants.{DefaultValue}
 use Rattle.iot_words.specs.Command.{command}
-use Rattle.iot_words.proofs.Uses.{Arg, Flag, Use, arg_name, arg_rule, args, flag, gen, held, image, json, name_of, nothing, number, row}
-use Rattle.iot_words.proofs.Uses.{save, state, the, top, upgrade}
+use Rattle.iot_words.proofs.Uses.{Arg, Flag, Use, arg_name, arg_rule, args, audit, flag, gen, held, image, json, name_of, nothing, number}
+use Rattle.iot_words.proofs.Uses.{row, save, state, the, top, upgrade}
 use Rattle.iot_words.proofs.TurnsLaws.{or_else-nil, rules}
 use Rattle.iot_words.proofs.WalksLaws.{ended, no_row, total}
 
@@ -135,6 +135,7 @@ flag_facts json = (refl, refl, refl)
 flag_facts save = (refl, refl, refl)
 flag_facts image = (refl, refl, refl)
 flag_facts upgrade = (refl, refl, refl)
+flag_facts audit = (refl, refl, refl)
 
 pub flag_of : (f : Flag) (us : List Use) → one_of (name_of f) (finally (map row us)) ≡ Some (flag_text (has (name_of f) us))
 flag_of f us = ap (option_and_then row_text)

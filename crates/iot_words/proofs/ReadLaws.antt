@@ -13,7 +13,7 @@ use Rattle.iot_words.specs.Jobs.{chosen, job_of}
 use Rattle.iot_words.specs.declared.faults.WordsFault.{WordsFault}
 use Rattle.iot_words.specs.declared.faults.WordsFault.TheVariants.{NoMemory, Refused}
 use Rattle.iot_words.specs.declared.jobs.Job.{Job}
-use Rattle.iot_words.proofs.Uses.{Flag, Use, image, json, name_of, nothing, row, save, spelled, state, upgrade}
+use Rattle.iot_words.proofs.Uses.{Flag, Use, audit, image, json, name_of, nothing, row, save, spelled, state, upgrade}
 use Rattle.iot_words.proofs.WalksLaws.{Apart, WalkAgrees, walk-Agrees}
 use Rattle.iot_words.proofs.MatchesLaws.{fault_is, finally, flag_of, flag_text, gen_in, gen_of, has, matches_are}
 use Rattle.iot_words.proofs.JobsLaws.{chosen_is, job_is, pick}
@@ -85,15 +85,16 @@ given_is m us rows f result gives = flag_is (one_text (found_of m) (name_of f)) 
     (one_text-rows (found_of m) (name_of f) ∙ ap (one_of (name_of f)) rows ∙ flag_of f us) gives.0 gives.1
 
 -- what the getters give of the matches names the job of the words
-pub read_job : (app : App) → app ≡ command → (words : List Text) (m : ArgMatches) (j s i u : Bool) (text : Option Text)
+pub read_job : (app : App) → app ≡ command → (words : List Text) (m : ArgMatches) (j s i u a : Bool) (text : Option Text)
     → (is_simple_and_free app ≡ true → fault_of app words ≡ []) → HasMatchesOf app words m
     → Gives m (codes "json") j → Gives m (codes "save") s → Gives m (codes "image") i → Gives m (codes "upgrade") u
-    → text ≡ first_value (found_of m) (codes "gen") → chosen j s i u text ≡ job_of words
-read_job app made words m j s i u text kinds matches gives_json gives_save gives_image gives_upgrade text_given =
+    → Gives m (codes "audit") a
+    → text ≡ first_value (found_of m) (codes "gen") → chosen j s i u a text ≡ job_of words
+read_job app made words m j s i u a text kinds matches gives_json gives_save gives_image gives_upgrade gives_audit text_given =
     let t = taken words (no_fault app made words kinds) in
     let rows = rows_are app made words m matches ∙ t.matches in
     let text_is : text ≡ gen_in t.uses =
     text_given ∙ first_value-rows (found_of m) (codes "gen") ∙ ap (first_of (codes "gen")) rows ∙ gen_of t.uses in
     let is = given_is m t.uses rows in
-    rw (is json j gives_json, is save s gives_save, is image i gives_image, is upgrade u gives_upgrade, text_is)
+    rw (is json j gives_json, is save s gives_save, is image i gives_image, is upgrade u gives_upgrade, is audit a gives_audit, text_is)
     (sym (chosen_is t.uses t.apart) ∙ sym t.job)

@@ -20,6 +20,7 @@ pub data Flag : Type 0 where
   save : Flag
   image : Flag
   upgrade : Flag
+  audit : Flag
 
 pub data Use : Type 0 where
   flag : Flag → Use
@@ -39,6 +40,7 @@ name_of json = codes "json"
 name_of save = codes "save"
 name_of image = codes "image"
 name_of upgrade = codes "upgrade"
+name_of audit = codes "audit"
 
 -- what building makes of a flag
 abbrev pub flag_rule : Text → Rule
@@ -50,7 +52,7 @@ pub data Arg : Type 0 where
   number : Arg
 
 abbrev pub args : List Arg
-args = the json ∷ number ∷ the save ∷ the image ∷ the upgrade ∷ []
+args = the json ∷ number ∷ the save ∷ the image ∷ the upgrade ∷ the audit ∷ []
 
 abbrev pub arg_name : Arg → Text
 arg_name (the f) = name_of f

@@ -1,4 +1,4 @@
--- The command, as `clap` sees it: four flags and one option.
+-- The command, as `clap` sees it: five flags and one option.
 use Rattle.std.specs.Prelude.{Some, codes, true}
 use Rattle.clap.specs.Words.{App, Rule, new_app, new_rule, with_rule}
 use Rattle.clap.specs.Simple.{on_top}
@@ -19,9 +19,15 @@ image_rule = record (new_rule (codes "image")) { long = Some (codes "image"); ac
 abbrev pub upgrade_rule : Rule
 upgrade_rule = record (new_rule (codes "upgrade")) { long = Some (codes "upgrade"); action = Some SetTrue }
 
+abbrev pub audit_rule : Rule
+audit_rule = record (new_rule (codes "audit")) { long = Some (codes "audit"); action = Some SetTrue }
+
 -- the words are those after the program's name, and there is no `--help`
 abbrev pub bare : App
 bare = on_top (λ shape. record shape { no_binary_name = true; disable_help_flag = true }) (new_app (codes "iot"))
 
 abbrev pub command : App
-command = with_rule (with_rule (with_rule (with_rule (with_rule bare json_rule) gen_rule) save_rule) image_rule) upgrade_rule
+command =
+    with_rule
+    (with_rule (with_rule (with_rule (with_rule (with_rule bare json_rule) gen_rule) save_rule) image_rule) upgrade_rule)
+    audit_rule

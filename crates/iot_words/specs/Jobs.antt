@@ -4,14 +4,14 @@ use Rattle.std.specs.List.{starts_with}
 use Rattle.std.specs.Str.{bytes_eq}
 use Rattle.iot_words.specs.Numbers.{number_of}
 use Rattle.iot_words.specs.declared.jobs.Job.{Job}
-use Rattle.iot_words.specs.declared.jobs.Job.TheVariants.{Run, Image, Upgrade}
+use Rattle.iot_words.specs.declared.jobs.Job.TheVariants.{Run, Image, Upgrade, Audit}
 use Rattle.iot_words.specs.declared.jobs.Run.TheVariants.{Transcript, Json, Generate, Save}
 
 abbrev pub generate_of : List ℕ → Option Job
 generate_of text = option_map Run (option_map Generate (number_of text))
 
--- the words name one job or none: `--json`, `--save`, `--image`, `--upgrade`, `--gen N` or `--gen=N`, each
--- alone
+-- the words name one job or none: `--json`, `--save`, `--image`, `--upgrade`, `--audit`, `--gen N` or `--gen=N`,
+-- each alone
 abbrev pub named : List (List ℕ) → Option Job
 named [] = Some (Run Transcript)
 named (word ∷ []) =
@@ -19,6 +19,7 @@ named (word ∷ []) =
     else if bytes_eq word (codes "--save") then Some (Run Save)
     else if bytes_eq word (codes "--image") then Some Image
     else if bytes_eq word (codes "--upgrade") then Some Upgrade
+    else if bytes_eq word (codes "--audit") then Some Audit
     else if starts_with nat_eq word (codes "--gen=") then generate_of (drop 6 word)
     else None
 named (word ∷ number ∷ []) = if bytes_eq word (codes "--gen") then generate_of number else None
@@ -35,11 +36,12 @@ abbrev pub job_of : List (List ℕ) → Option Job
 job_of words = named (without_end words)
 
 -- the job, by which flags were given and the text that `--gen` was given
-abbrev pub chosen : (json save image upgrade : Bool) → (text : Option (List ℕ)) → Option Job
-chosen false false false false None = Some (Run Transcript)
-chosen true false false false None = Some (Run Json)
-chosen false true false false None = Some (Run Save)
-chosen false false true false None = Some Image
-chosen false false false true None = Some Upgrade
-chosen false false false false (Some text) = generate_of text
-chosen json save image upgrade text = None
+abbrev pub chosen : (json save image upgrade audit : Bool) → (text : Option (List ℕ)) → Option Job
+chosen false false false false false None = Some (Run Transcript)
+chosen true false false false false None = Some (Run Json)
+chosen false true false false false None = Some (Run Save)
+chosen false false true false false None = Some Image
+chosen false false false true false None = Some Upgrade
+chosen false false false false true None = Some Audit
+chosen false false false false false (Some text) = generate_of text
+chosen json save image upgrade audit text = None

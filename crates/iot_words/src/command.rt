@@ -30,6 +30,7 @@ pub fn read_words(alloc: Global, words: &[&str]) -> Result<Job, WordsFault>
         matches.get_flag("save"),
         matches.get_flag("image"),
         matches.get_flag("upgrade"),
+        matches.get_flag("audit"),
         matches.get_str("gen"),
     ) {
         Some(job) => Ok(job),
@@ -54,6 +55,9 @@ fn command<'a>(alloc: Global) -> Result<Command<'a>, AllocError>
     let upgrade = Arg::new(alloc, "upgrade")
         .long("upgrade")
         .action(ArgAction::SetTrue);
+    let audit = Arg::new(alloc, "audit")
+        .long("audit")
+        .action(ArgAction::SetTrue);
     Command::new(alloc, "iot")
         .no_binary_name(true)
         .disable_help_flag(true)
@@ -61,7 +65,8 @@ fn command<'a>(alloc: Global) -> Result<Command<'a>, AllocError>
         .arg(number)?
         .arg(save)?
         .arg(image)?
-        .arg(upgrade)
+        .arg(upgrade)?
+        .arg(audit)
 }
 
 /// The fault that a failed parse is.

@@ -15,6 +15,10 @@ pub enum Job {
 
     /// Write a disk of version 2 that stands for the same state as the input, which is an image of a server's disk.
     Upgrade,
+
+    /// Check an image of a server's disk against an event script. The input is the script with its length before it, and
+    /// then the image.
+    Audit,
 }
 
 /// Which events are done, and what is written of them.
@@ -39,17 +43,19 @@ pub(crate) fn chosen(
     save: bool,
     image: bool,
     upgrade: bool,
+    audit: bool,
     text: Option<&str>,
 ) -> Option<Job>
-    ensures { result ≡ chosen json save image upgrade (option_map (λ s. s.now) text.entry) }
+    ensures { result ≡ chosen json save image upgrade audit (option_map (λ s. s.now) text.entry) }
 {
-    match (json, save, image, upgrade, text) {
-        (false, false, false, false, None) => Some(Job::Run(Run::Transcript)),
-        (true, false, false, false, None) => Some(Job::Run(Run::Json)),
-        (false, true, false, false, None) => Some(Job::Run(Run::Save)),
-        (false, false, true, false, None) => Some(Job::Image),
-        (false, false, false, true, None) => Some(Job::Upgrade),
-        (false, false, false, false, Some(text)) => {
+    match (json, save, image, upgrade, audit, text) {
+        (false, false, false, false, false, None) => Some(Job::Run(Run::Transcript)),
+        (true, false, false, false, false, None) => Some(Job::Run(Run::Json)),
+        (false, true, false, false, false, None) => Some(Job::Run(Run::Save)),
+        (false, false, true, false, false, None) => Some(Job::Image),
+        (false, false, false, true, false, None) => Some(Job::Upgrade),
+        (false, false, false, false, true, None) => Some(Job::Audit),
+        (false, false, false, false, false, Some(text)) => {
             number_of(text).map(Run::Generate).map(Job::Run)
         }
         _ => None,
