@@ -158,7 +158,7 @@ reads_apart : (bases : List Base) → AreBaseReads bases → AreReads (map (λ b
 reads_apart [] are = tt
 reads_apart (base ∷ bases) are = (are.0, reads_apart bases are.1)
 
-updates_spelled : (acts : List Act) → AllByRecursion IsAct acts → AreUpdates (updates_of acts)
+pub updates_spelled : (acts : List Act) → AllByRecursion IsAct acts → AreUpdates (updates_of acts)
 updates_spelled [] are = tt
 updates_spelled (act ∷ acts) are = by act.update are.0.update (updates_spelled acts are.1)
   where
@@ -167,14 +167,18 @@ updates_spelled (act ∷ acts) are = by act.update are.0.update (updates_spelled
     by None is later = later
     by (Some update) is later = (is, later)
 
+pub asked_spelled : (acts : List Act) (before : Nodes) → AllByRecursion IsAct acts → IsSpelledTree before
+    → AreReads (access_of acts before).reads
+asked_spelled acts before are spelled =
+    reads_apart (first_asked none_asked (based acts before [] 1))
+    (some_spelled (based acts before [] 1) none_asked (bases_spelled before spelled acts [] 1 are tt))
+
 pub access_spelled : (acts : List Act) (before : Nodes) → AllByRecursion IsAct acts → IsSpelledTree before
     → AreNumbers (access_of acts before).places → IsAccess (access_of acts before)
 access_spelled acts before are spelled numbers = record {
   bases = record {
     even = as_many_places acts before;
-    reads =
-        reads_apart (first_asked none_asked (based acts before [] 1))
-        (some_spelled (based acts before [] 1) none_asked (bases_spelled before spelled acts [] 1 are tt));
+    reads = asked_spelled acts before are spelled;
     places = numbers;
   };
   updates = updates_spelled acts are;

@@ -1,9 +1,10 @@
 mod BodiesLaws
 mod CommitsLaws
 mod ImagesLaws
+mod LinesLaws
 mod NotingLaws
 pub mod NumbersLaws
-mod RecordsLaws
+pub mod RecordsLaws
 mod RowsLaws
 pub mod StandingLaws
 pub mod StatesLaws

@@ -119,6 +119,14 @@ none_old One body it short old is has commit found =
     absurd cc
 none_old Two body it short old is has commit found = absurd cc
 
+-- ---- its lines
+
+-- in either version they are those of the commit that is lent
+pub lines_found : (version : Version) (body : List ℕ) (it : Submission) (commit : Commit) → length body < 2 ^ 64
+    → IsDecodedAs Two body (Some it) → IsRecordIn version body commit → it.1.1 ≡ commit.lines
+lines_found version body it commit short found is =
+    ap (λ (c : Commit). c.lines) (record_alone Two body (commit_of it) commit short found (record_new version body commit is))
+
 -- ---- what is replayed
 
 -- the commit whose record the body is was made if it can follow, and only then

@@ -1,13 +1,16 @@
 -- What the bytes of a server's disk hold, and why they hold nothing.
-use Rattle.std.specs.Prelude.{◌≡◌, ℕ, List}
+use Rattle.std.specs.Prelude.{◌≡◌, ℕ, List, [], ◌∷◌}
 use Rattle.iot_disk.specs.declared.faults.StartFault.{StartFault}
 use Rattle.iot_disk.specs.declared.faults.StartFault.TheVariants as start
 use Rattle.iot_durable.specs.Damage.{IsDamagedAt}
 use Rattle.iot_durable.specs.Standing.{IsNew, StandWith}
-use Rattle.iot_slots.specs.Decoding.{Foreign, decoded}
+use Rattle.iot_slots.specs.Decoding.{Decoded, Encodes, NotStarted, Foreign, Damaged, decoded}
+use Rattle.iot_slots.specs.declared.version.Version.{Version}
+use Rattle.iot_store.specs.Records.{IsRecordIn}
 use Rattle.iot_store.specs.Rules.{header, rules}
 use Rattle.iot_store.specs.Standing.{StandFor}
 use Rattle.iot_store.specs.States.{State}
+use Rattle.iot_store.specs.declared.commit.Commit.{Commit}
 use Rattle.iot_store.specs.declared.image.Image.{Image}
 use Rattle.iot_store.specs.declared.image.ImageFault.{ImageFault}
 use Rattle.iot_store.specs.declared.image.ImageFault.TheVariants as fault
@@ -17,11 +20,26 @@ pub record IsImageOf (image : Image) (state : State) : Type 0 where
   pub tree : image.tree ≡ state.tree
   pub labels : image.labels ≡ state.labels
 
--- the tree and the labels of the state for which the bytes stand
+-- each body spells a commit that printed these lines, in turn
+abbrev pub HaveLines : Version → (bodies : List (List ℕ)) → List (List (List ℕ)) → Type 0
+HaveLines version [] [] = Unit {0}
+HaveLines version (body ∷ bodies) (lines ∷ recorded) =
+    ((commit : Commit) × IsRecordIn version body commit × (lines ≡ commit.lines)) × HaveLines version bodies recorded
+HaveLines version bodies recorded = ⊥
+
+-- the lines of each record behind the checkpoint in force, in order; a disk that is not started has none
+abbrev pub HasRecorded : Decoded → List (List (List ℕ)) → Type 0
+HasRecorded (Encodes encoded) recorded = HaveLines encoded.version encoded.bodies recorded
+HasRecorded NotStarted recorded = recorded ≡ []
+HasRecorded Foreign recorded = ⊥
+HasRecorded (Damaged at) recorded = ⊥
+
+-- the tree and the labels of the state for which the bytes stand, and the lines of its last commits, which still have records
 pub record IsImageIn (bytes : List ℕ) (image : Image) : Type 0 where
   pub state : State
   pub stands : StandFor bytes state
   pub holds : IsImageOf image state
+  pub recorded : HasRecorded (decoded header bytes) image.recorded
 
 -- the bytes of a disk that was just started in version 2, with a checkpoint of the state alone for which the other bytes stand, after as
 -- many records

@@ -1,5 +1,6 @@
 -- The records on the server's disk: of each commit the request that asked for it.
 use Rattle.std.specs.Prelude.{◌≡◌, ℕ, true, List, Option, Some, None}
+use Rattle.std.specs.List.{AllByRecursion}
 use Rattle.iot_slots.specs.declared.version.Version.{Version}
 use Rattle.iot_slots.specs.declared.version.Version.TheVariants.{One, Two}
 use Rattle.iot_tree.specs.declared.access.Access.{Access}
@@ -25,6 +26,10 @@ abbrev pub IsRecordIn : Version → List ℕ → Commit → Type 0
 IsRecordIn One body commit =
     IsRecord body commit.label commit.access commit.lines × (is_old_commit commit.label commit.access ≡ true)
 IsRecordIn Two body commit = IsRecord body commit.label commit.access commit.lines
+
+-- each body is the record of a commit
+abbrev pub AreRecords : Version → List (List ℕ) → Type 0
+AreRecords version bodies = AllByRecursion (λ (body : List ℕ). (commit : Commit) × IsRecordIn version body commit) bodies
 
 -- the commit that is submitted
 abbrev pub commit_of : Submission → Commit

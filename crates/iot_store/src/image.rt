@@ -6,7 +6,7 @@ ghost use Rattle.iot_store.specs.declared.image.ImageFault.TheVariants.{NoMemory
 use crate::commits::Commits;
 use iot_disk::StartFault;
 use iot_text::NoMemory;
-use iot_tree::{Labels, Tree};
+use iot_tree::{Labels, Lines, Sequence, Tree};
 use std::alloc::Global;
 use thiserror::Error;
 
@@ -18,19 +18,28 @@ pub struct Image {
 
     /// The labels of the commits, in their order.
     pub labels: Labels,
+
+    /// What the last commits printed, those with a record behind the checkpoint in force, in their order.
+    pub recorded: Sequence<Lines>,
 }
 
 impl Image {
     ghost use Rattle.std.specs.Prelude.{◌≡◌, IfOk};
     ghost use Rattle.iot_store.specs.Images.{IsImageOf};
 
-    /// Of these commits.
-    pub(crate) fn of(alloc: Global, commits: Commits) -> Result<Image, NoMemory>
-        ensures { IfOk result (λ image. IsImageOf image commits) }
+    /// Of these commits, the last of which have records with these lines.
+    pub(crate) fn of(
+        alloc: Global,
+        commits: Commits,
+        recorded: Sequence<Lines>,
+    ) -> Result<Image, NoMemory>
+        ensures of { IfOk result (λ image. IsImageOf image commits) }
+        ensures recorded { IfOk result (λ image. image.recorded ≡ recorded) }
     {
         Ok(Image {
             tree: commits.tree().copy(alloc)?,
             labels: commits.into_labels(),
+            recorded,
         })
     }
 }

@@ -5,6 +5,7 @@ mod body;
 mod commit;
 mod commits;
 mod image;
+mod lines;
 mod recorded;
 mod records;
 mod store;

@@ -29,7 +29,7 @@ pub(crate) fn lend(
 }
 
 /// The same in version 2.
-fn lend_new(body: &[u8]) -> Option<CommitView<'_>>
+pub(crate) fn lend_new(body: &[u8]) -> Option<CommitView<'_>>
     ensures { IsDecodedAs Two body.now result }
 {
     CommitView::of(body).ok()

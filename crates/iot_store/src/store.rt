@@ -1,6 +1,6 @@
 //! The store itself.
 ghost use Rattle.std.specs.List.{AllByRecursion};
-ghost use Rattle.std.specs.Prelude.{◌≡◌, ◌≢◌, ◌↔◌, ◌+◌, ℕ, List, length, IfOk, IfErr, OnOk, IsErrOf, IsTrue, MatchResult};
+ghost use Rattle.std.specs.Prelude.{◌≡◌, ◌≢◌, ◌↔◌, ◌≤◌, ◌+◌, ℕ, List, length, IfOk, IfErr, OnOk, IsErrOf, IsTrue, MatchResult};
 ghost use Rattle.iot_access.specs.Access.{FitInTurn};
 ghost use Rattle.iot_views.specs.Rules.{AreLines, IsAccess, IsLabel};
 ghost use Rattle.iot_disk.specs.Disk.{armed_with, Only, SameImages};
@@ -12,7 +12,7 @@ ghost use Rattle.iot_records.specs.Records.{ChangesNothing};
 ghost use Rattle.iot_slots.specs.Cells.{next};
 ghost use Rattle.iot_slots.specs.Decoding.{Foreign, NotStarted, decoded};
 ghost use Rattle.iot_stamp.specs.Stamps.{nodes_of};
-ghost use Rattle.iot_store.specs.Images.{IsImageIn, IsImageOf, IsRefusal, IsUpgraded, TakesImage};
+ghost use Rattle.iot_store.specs.Images.{HasRecorded, IsImageIn, IsImageOf, IsRefusal, IsUpgraded, TakesImage};
 ghost use Rattle.iot_store.specs.Images.{SaysDamaged as SaysImageDamaged, SaysForeign as SaysImageForeign};
 ghost use Rattle.iot_store.specs.Numbers.{number_in};
 ghost use Rattle.iot_store.specs.Records.{IsRecord};
@@ -21,6 +21,7 @@ ghost use Rattle.iot_store.specs.Standing.{EachStands, EachStandsEither, EachSta
 ghost use Rattle.iot_store.specs.States.{State, CanFollow, after_commit};
 
 use crate::commits::Commits;
+use crate::lines::recorded_lines;
 use crate::{Commit, Image, ImageFault};
 use iot_disk::{Disk, JournalFault, Pick, StartFault};
 use iot_durable::{Durable, read_image, spell_disk};
@@ -106,8 +107,9 @@ impl<D: Disk> Store<D> {
         }
     }
 
-    /// The tree and the labels that a start from a disk which reads as these bytes would give. Nothing is written, and the records are
-    /// read where they stand. Costs as much as such a start.
+    /// The tree and the labels that a start from a disk which reads as these bytes would give, and the lines of the last commits, which
+    /// still have records. Nothing is written. Costs as much as such a start, and the records are then read a second time, where they
+    /// stand, and their lines are copied.
     ///
     /// # Errors
     ///
@@ -121,13 +123,21 @@ impl<D: Disk> Store<D> {
         ensures never { (state : State) → StandFor bytes.now state → IfErr result TakesImage }
         ensures state { IfOk result (λ image. AllByRecursion IsLabel image.labels) }
 
+        // They are the last commits' lines, and no others.
+        ensures last { IfOk result (λ image. length image.recorded ≤ length image.labels) }
+        ensures recorded { (recorded : List (List (List ℕ))) → HasRecorded (decoded header bytes.now) recorded
+            → IfOk result (λ image. image.recorded ≡ recorded) }
+
         // What something else wrote, and what is damaged, is refused for that, unless memory runs out.
         ensures foreign { decoded header bytes.now ≡ Foreign → MatchResult result (λ _. ⊥) SaysImageForeign }
         ensures damaged { (at : ℕ) → IsDamagedAt rules bytes.now at → MatchResult result (λ _. ⊥) (SaysImageDamaged at) }
         ensures cause { IfErr result (IsRefusal bytes.now) }
     {
         match read_image::<Commits>(alloc, bytes) {
-            Ok(found) => Ok(Image::of(alloc, found.state)?),
+            Ok(found) => {
+                let recorded = recorded_lines(alloc, bytes)?;
+                Ok(Image::of(alloc, found.state, recorded)?)
+            }
             Err(fault) => Err(ImageFault::from(fault)),
         }
     }
