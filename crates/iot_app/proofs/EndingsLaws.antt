@@ -8,11 +8,12 @@ use Rattle.iot_words.specs.Jobs.{job_of}
 use Rattle.iot_words.specs.declared.faults.WordsFault.{WordsFault}
 use Rattle.iot_words.specs.declared.faults.WordsFault.TheVariants as words
 use Rattle.iot_words.specs.declared.jobs.Job.{Job}
-use Rattle.iot_words.specs.declared.jobs.Job.TheVariants.{Run as Does, Image, Upgrade}
+use Rattle.iot_words.specs.declared.jobs.Job.TheVariants.{Run as Does, Image, Upgrade, Audit}
 use Rattle.iot_words.specs.declared.jobs.Run.{Run}
 use Rattle.iot_words.specs.declared.jobs.Run.TheVariants.{Transcript, Json, Generate, Save}
 use Rattle.iot_app.specs.Doing.{Did}
-use Rattle.iot_app.specs.Endings.{Effects, DidNothing, ReadInPart, OnEvents, UsageEnds, RunEnds, ImageEnds, JobEnds, EndsBy, Ends}
+use Rattle.iot_app.specs.Endings.{Effects, DidNothing, ReadInPart, OnEvents, UsageEnds, RunEnds, ImageEnds, AuditEnds, JobEnds}
+use Rattle.iot_app.specs.Endings.{EndsBy, Ends}
 use Rattle.iot_app.specs.Input.{TookSome, IsRefused, too_long, no_script, TookFor}
 use Rattle.iot_app.specs.Job.{TextEnds, whole, front, NothingEnds, RefusalEnds, WordsEnd, GivesNone}
 use Rattle.iot_app.specs.Outputs.{is_generated, GivesEvents}
@@ -53,11 +54,18 @@ module _ (it : Effects) where
     showed = record { some = record { front = []; taken = did.unread; within = omega arith }; written = did.wrote };
   }
 
+  audits_nothing : DidNothing it (it.wrote []) → AuditEnds it statuses.NoMemory
+  audits_nothing did = record {
+    undone = did.undone;
+    audited = record { some = record { front = []; taken = did.unread; within = omega arith }; written = did.wrote };
+  }
+
   pub nothing_ends : (job : Option Job) → DidNothing it (it.wrote []) → EndsBy job it statuses.NoMemory
   nothing_ends None did = did
   nothing_ends (Some (Does run)) did = inl did
   nothing_ends (Some Image) did = shows_nothing tells.Text did
   nothing_ends (Some Upgrade) did = shows_nothing tells.Disk did
+  nothing_ends (Some Audit) did = audits_nothing did
 
   nothing_did : (written : Type 0) → it.took [] → it.untouched → written → DidNothing it written
   nothing_did written none undone wrote = record { unread = none; undone = undone; wrote = wrote }

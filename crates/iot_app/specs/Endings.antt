@@ -5,8 +5,9 @@ use Rattle.iot_machine.specs.Machine.{Machine}
 use Rattle.iot_machine.specs.Nodes.{Counts}
 use Rattle.iot_words.specs.Jobs.{job_of}
 use Rattle.iot_words.specs.declared.jobs.Job.{Job}
-use Rattle.iot_words.specs.declared.jobs.Job.TheVariants.{Run as Does, Image, Upgrade}
+use Rattle.iot_words.specs.declared.jobs.Job.TheVariants.{Run as Does, Image, Upgrade, Audit}
 use Rattle.iot_words.specs.declared.jobs.Run.{Run}
+use Rattle.iot_app.specs.Audits.{Audited}
 use Rattle.iot_app.specs.Doing.{Did}
 use Rattle.iot_app.specs.Images.{Showed}
 use Rattle.iot_app.specs.Input.{TookSome, IsRefused}
@@ -76,11 +77,17 @@ pub record ImageEnds (telling : Telling) (it : Effects) (status : Status) : Type
   pub undone : it.untouched
   pub showed : Showed it.took it.at_end telling it.wrote status
 
+-- how one ends that audits an image
+pub record AuditEnds (it : Effects) (status : Status) : Type 0 where
+  pub undone : it.untouched
+  pub audited : Audited it.took it.at_end it.wrote status
+
 -- how one ends whose words name this job
 abbrev pub JobEnds : Effects → Job → Status → Type 0
 JobEnds it (Does run) status = RunEnds it run status
 JobEnds it Image status = ImageEnds Text it status
 JobEnds it Upgrade status = ImageEnds Disk it status
+JobEnds it Audit status = AuditEnds it status
 
 -- and one whose words name none
 abbrev pub UsageEnds : Effects → Status → Type 0

@@ -11,7 +11,11 @@ pub mod Saving
 pub mod Keeping
 pub mod Doing
 pub mod Images
+pub mod Parts
+pub mod Audits
+pub mod AuditFaults
 pub mod Endings
 pub mod Job
+pub mod Auditing
 pub mod Faults
 pub mod Disks

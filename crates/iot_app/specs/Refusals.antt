@@ -5,7 +5,7 @@ use Rattle.iot_event.specs.declared.fault.EventFault.TheVariants as faults
 use Rattle.iot_machine.specs.Texts.{line}
 
 abbrev pub usage_line : List ℕ
-usage_line = line (codes "usage: iot [--json | --gen N | --save | --image | --upgrade]")
+usage_line = line (codes "usage: iot [--json | --gen N | --save | --image | --upgrade | --audit]")
 
 abbrev pub too_long_line : List ℕ
 too_long_line = line (codes "input too long")

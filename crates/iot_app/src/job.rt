@@ -8,6 +8,7 @@ ghost use Rattle.iot_app.specs.Endings.{Ends, JobEnds, RunEnds};
 ghost use Rattle.iot_app.specs.Saving.{first_reads};
 ghost use Rattle.iot_app.specs.Status.{HasStatus, SourceCounts, SinkCounts};
 
+use crate::audit::audit_source;
 use crate::doing::do_events;
 use crate::events::events_of;
 use crate::image::{Telling, show_source};
@@ -41,6 +42,9 @@ pub struct Outcome<D> {
 ///   without a commit. A client goes by its place, 0 to 7, since an image holds no names. No disk is touched.
 /// - `--upgrade`: reads the source in the same way, and writes the bytes of a disk that stands for the same state, in version 2: one that
 ///   was just started with a checkpoint of it, after as many records. What it writes is upgraded into itself. No disk is touched.
+/// - `--audit`: reads the source to its end as a number of 8 bytes, most significant first, an event script of that many bytes, and an
+///   image. Writes how many commits the image has, if the events make it: they declare each commit's script; these scripts, run alone in
+///   the order of the commits, make the tree of the image; and they print then what its records say. No disk is touched.
 ///
 /// Of the nine disks, which are empty and come back, the first is the server's, and the client at place i, counted from 0 in order
 /// of declaration, has disk i + 1.
@@ -48,9 +52,11 @@ pub struct Outcome<D> {
 /// # Statuses
 ///
 /// - 0: the input was read to its end and is an event script, or none is read; all events were done, and the whole output was written. Or
-///   an image was read to its end, and all that it is written as was written.
+///   an image was read to its end, and all that it is written as was written; or the line was that says that the events make it.
 /// - 1: the input has more than 4,194,304 bytes, or was read to its end and is no event script; or an image has more than 268,435,456
-///   bytes, or was read to its end and is foreign or damaged. One line that says so was written.
+///   bytes, or was read to its end and is foreign or damaged; or the input of an audit has an event script or an image over these limits,
+///   or was read to its end and is cut short, has no event script, or an image that the events do not make. One line that says so was
+///   written.
 /// - 2: the words name no job, or two. Nothing was read, and the usage line was written.
 /// - 3: a read failed. Nothing was written.
 /// - 4: a write failed, or took nothing. A front of what there was to say was written. If that is a transcript, the input
@@ -173,6 +179,7 @@ fn do_job<S: Source, K: Sink, D: Disk>(
         Job::Run(run) => do_run(alloc, run, source, sink, disks),
         Job::Image => (show_source(alloc, Telling::Text, source, sink), disks),
         Job::Upgrade => (show_source(alloc, Telling::Disk, source, sink), disks),
+        Job::Audit => (audit_source(alloc, source, sink), disks),
     }
 }
 

@@ -1,13 +1,16 @@
 //! The program as a function: the words of the command line name a job. For most jobs an event script is read, its events are done one by
-//! one, and what the job asks for is written; for one an image of a server's disk is read, and what it shows is written.
+//! one, and what the job asks for is written; for others an image of a server's disk is read, and what it shows is written.
 #![tactic(auto)]
 
+mod audit;
+mod audit_lines;
 mod disks;
 mod doing;
 mod events;
 mod image;
 mod input;
 mod job;
+mod parts;
 mod play;
 mod refusing;
 mod running;

@@ -14,7 +14,7 @@ use iot_words::WordsFault;
 use std::alloc::Global;
 
 /// What a faulty command line is answered with.
-const USAGE: &[u8] = b"usage: iot [--json | --gen N | --save | --image | --upgrade]\n";
+const USAGE: &[u8] = b"usage: iot [--json | --gen N | --save | --image | --upgrade | --audit]\n";
 
 /// Says how the program is called, if the words are faulty.
 pub(crate) fn refuse_words<K: Sink>(fault: WordsFault, sink: &mut K) -> Status

@@ -1,5 +1,5 @@
 //! Event scripts whose events, or whose first bad line, were written by hand.
-use iot_event::{Choice, ClientEvent, Event, EventFault, NodeEvent, Task, parse};
+use iot_event::{Choice, ClientEvent, Event, EventFault, NodeEvent, SharedProfile, Task, parse};
 use std::test::Fail;
 
 /// A script with a comment, blank lines and blocks, and other forms of line.
@@ -16,7 +16,7 @@ fn declares(event: &Event, name: &[u8]) -> bool {
 }
 
 /// What the client at this place is asked to do by an event.
-fn task_at(event: &Event, place: u64) -> Option<&Task<u64>> {
+fn task_at(event: &Event, place: u64) -> Option<&Task<u64, SharedProfile>> {
     match event {
         Event::At {
             client,

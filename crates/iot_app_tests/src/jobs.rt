@@ -19,7 +19,8 @@ pub(crate) const STARTED: &[u8] = b"\xa5IOTSLOT1\
 /// What no events leave.
 pub(crate) const NOTHING: &[u8] = b"{\"clients\":[],\"commits\":[],\"server\":[[\"/\",\"dir\"]]}\n";
 
-pub(crate) const USAGE: &[u8] = b"usage: iot [--json | --gen N | --save | --image | --upgrade]\n";
+pub(crate) const USAGE: &[u8] =
+    b"usage: iot [--json | --gen N | --save | --image | --upgrade | --audit]\n";
 
 /// A client that has crashed with a transaction that waits, and a server that is down.
 const DOWN: &[u8] = b"client laptop\nclient desk\nscript s {\necho a\n}\ndisconnect desk\n\
@@ -37,12 +38,13 @@ const COUNTED: &[u8] = b"commits 1405\nconflicts 531\npending 663\nrows 10\n";
 
 #[test]
 fn each_job_writes_its_output(rt: HostRuntime) -> Result<(), Fail> {
-    let jobs: [(&[&str], &[u8], u8, &[u8]); 6] = [
+    let jobs: [(&[&str], &[u8], u8, &[u8]); 7] = [
         (&["--json"], b"", 0, NOTHING),
         (&["--json"], DOWN, 0, ASLEEP),
         (&["--save"], b"", 0, STARTED),
         (&["--save"], CRASH, 0, RECORDED),
         (&["--json", "--save"], CRASH, 2, USAGE),
+        (&["--image", "--audit"], b"", 2, USAGE),
         (&["--gen", "01"], b"", 2, USAGE),
     ];
     for (words, input, status, output) in jobs {
