@@ -7,3 +7,4 @@ pub mod Rows
 pub mod Place
 pub mod Follows
 pub mod Snapshots
+pub mod Profiles
