@@ -1,10 +1,10 @@
--- Laws of where a script ends, for a text that is searched line by line.
-use Rattle.std.proofs.Common.{◌≡◌, ◌≢◌, inr, ℕ, ◌+◌, List, [], ◌∷◌, ◌++◌, length, Option, Some, None, refl, sym, ap, ◌∙◌}
-use Rattle.std.proofs.Common.{append_assoc, length-append, arith}
+-- Laws of where a script or a profile ends, for a text that is searched line by line.
+use Rattle.std.proofs.Common.{◌≡◌, ◌≢◌, inr, ℕ, ◌+◌, Bool, false, List, [], ◌∷◌, ◌++◌, length, Option, Some, None, refl, sym, ap, ◌∙◌}
+use Rattle.std.proofs.Common.{append_assoc, length-append, arith, if◌then◌else◌}
 use Rattle.iot_lines.specs.Lines.{lines, IsJoined}
 use Rattle.iot_lines.specs.Words.{words}
 use Rattle.iot_lines.proofs.LinesLaws.{Passed, PassedLine, pass_line}
-use Rattle.iot_event.specs.Closing.{Closed, blocks_after, with_lines, closed_at, closed_by}
+use Rattle.iot_event.specs.Closing.{Closed, is_closing, blocks_after, with_lines, closed_at, closed_by, first_closing}
 
 with_lines-nil : (script : Option Closed) → script ≡ with_lines [] script
 with_lines-nil None = refl
@@ -46,4 +46,40 @@ search_line text rest line later blocks count open_ searched first joined is =
           ∙ with_lines-append front (line ∷ []) (closed_by (lines later) open_)
           ∙ ap (λ (ls : List (List ℕ)). with_lines ls (closed_by (lines later) open_)) (sym next.one_more);
       counted = omega (arith, searched.counted, ap length next.one_more, length-append front (line ∷ []));
+    }
+
+-- ---- a profile
+
+-- the lines of a text before the rest do not close the profile
+pub record Sought (text rest : List ℕ) (count : ℕ) : Type 0 where
+  pub passed : Passed text rest
+  pub same : first_closing (lines text) ≡ with_lines (lines passed.front) (first_closing (lines rest))
+  pub counted : count ≡ length (lines passed.front)
+
+pub nothing_sought : (text : List ℕ) → Sought text text 0
+nothing_sought text = record {
+  passed = record { front = []; split = refl; apart = inr (λ more. refl) };
+  same = with_lines-nil (first_closing (lines text));
+  counted = refl;
+}
+
+-- after a line that does not close the profile
+pub seek_line : (text rest line later : List ℕ) (count : ℕ) → Sought text rest count
+    → lines rest ≡ line ∷ lines later → IsJoined rest line later → is_closing (words line) ≡ false
+    → Sought text later (count + 1)
+seek_line text rest line later count sought first joined is =
+    let some : rest ≢ [] = λ none. let never : [] ≡ line ∷ lines later = ap lines (sym none) ∙ first in cc in
+    let front : List (List ℕ) = lines sought.passed.front in
+    let next : PassedLine text rest line later sought.passed = pass_line text rest line later sought.passed some joined first in
+    record {
+      passed = next.next;
+      same =
+          sought.same
+          ∙ ap (λ (ls : List (List ℕ)). with_lines front (first_closing ls)) first
+          ∙ ap (λ (b : Bool). with_lines front
+          (if b then Some (record { inside = []; closing = line; later = lines later }) else with_lines (line ∷ []) (first_closing (lines later))))
+          is
+          ∙ with_lines-append front (line ∷ []) (first_closing (lines later))
+          ∙ ap (λ (ls : List (List ℕ)). with_lines ls (first_closing (lines later))) (sym next.one_more);
+      counted = omega (arith, sought.counted, ap length next.one_more, length-append front (line ∷ []));
     }

@@ -5,14 +5,17 @@ use Rattle.std.specs.Option.{option_to_list}
 use Rattle.std.specs.declared.alloc.Global.{Global}
 use Rattle.iot_lines.specs.Lines.{lines}
 use Rattle.iot_lang.specs.Code.{Code}
+use Rattle.iot_tree.specs.Profiles.{Profile as Wishes}
 use Rattle.iot_lang.proofs.ScriptsLaws.{same_script}
 use Rattle.iot_event.specs.declared.event.Event.{Event}
-use Rattle.iot_event.specs.declared.event.Event.TheVariants.{Script}
+use Rattle.iot_event.specs.declared.event.Event.TheVariants.{Script, Profile}
 use Rattle.iot_event.specs.declared.fault.EventFault.{EventFault}
 use Rattle.iot_event.specs.declared.fault.EventFault.TheVariants as faults
 use Rattle.iot_event.specs.Closing.{Closed}
-use Rattle.iot_event.specs.Meanings.{Scope, nothing_declared, Meaning, Refused, Skipped, Says, Opens, meaning_of}
-use Rattle.iot_event.specs.Events.{Step, Stops, Goes, IsScriptStep, IsStepOf, IsStep, Outcome, Events, Fault, after_events}
+use Rattle.iot_event.specs.Profiles.{profile_of}
+use Rattle.iot_event.specs.Meanings.{Scope, nothing_declared, Meaning, Refused, Skipped, Says, Opens, Lists, meaning_of}
+use Rattle.iot_event.specs.Events.{Step, Stops, Goes, IsScriptStep, with_profile, profile_step, IsStepOf, IsStep, Outcome, Events, Fault}
+use Rattle.iot_event.specs.Events.{after_events}
 use Rattle.iot_event.specs.Events.{LinesGive, at_end, stop, go, Gives}
 use Rattle.iot_event.specs.Results.{SaidOf, HasFault, UnlessMemory}
 use Rattle.iot_event.proofs.ScriptsLaws.{same_fault, no_fault}
@@ -61,6 +64,20 @@ module _ (input : List ℕ) (events : List Event) (ls : List (List ℕ)) (line :
   pub stopped : (fault : EventFault) → SaidOf fault (IsStep scope number line later (Stops fault)) → HasFault input fault
   stopped fault said = said_of fault said (λ is. gives_first (Fault fault) (stop line later scope number fault is))
 
+-- ---- a profile
+
+-- lines that are this profile come to its event
+pub listed : (meaning : Meaning) (scope : Scope) (number : ℕ) (later : List (List ℕ)) (name : List ℕ) (block : Closed) (profile : Wishes)
+    (after : Scope) (next : ℕ) → meaning ≡ Lists name block → profile_of block (number + 1) ≡ Ok profile
+    → after ≡ with_profile scope name profile → next ≡ number + 1 + length block.inside + 1
+    → IsStepOf meaning scope number later (Goes (Some (Profile name profile)) after block.later next)
+listed meaning scope number later name block profile after next is found left counted =
+    let event : Option Event = Some (Profile name profile) in
+    subst (λ (m : Meaning). IsStepOf m scope number later (Goes event after block.later next)) (sym is)
+    (ap (λ (a : Scope). Goes event a block.later next) left
+    ∙ ap (λ (n : ℕ). Goes event (with_profile scope name profile) block.later n) counted
+    ∙ ap (λ (r : Result Wishes EventFault). profile_step name block scope (number + 1) r) (sym found))
+
 -- ---- a line comes to one step
 
 same_script_step : (name : List ℕ) (script : Closed) (after : Scope) (first : ℕ) (s t : Step)
@@ -83,6 +100,7 @@ same_step : (meaning : Meaning) (scope : Scope) (number : ℕ) (later : List (Li
 same_step (Refused fault) scope number later s t one two = one ∙ sym two
 same_step Skipped scope number later s t one two = one ∙ sym two
 same_step (Says event after) scope number later s t one two = one ∙ sym two
+same_step (Lists name block) scope number later s t one two = one ∙ sym two
 same_step (Opens name script after) scope number later s t one two = same_script_step name script after (number + 1) s t one two
 
 -- ---- an input gives one outcome

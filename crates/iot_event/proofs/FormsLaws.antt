@@ -8,6 +8,8 @@ use Rattle.std.proofs.lemmas.Bool.Decides.{nat_tests}
 use Rattle.iot_text.specs.Names.{is_name}
 use Rattle.iot_text.specs.Paths.{IsPath, path_of}
 use Rattle.iot_text.proofs.PathTextsLaws.{path_of-spells}
+use Rattle.iot_tree.specs.Profiles.{IsWalkLimit}
+use Rattle.iot_tree.specs.declared.limits.TheConstants.{WALK_LIMIT}
 use Rattle.iot_event.specs.declared.form.TheConstants.{STEP_LIMIT, TRANSACTION_LIMIT, READS_LIMIT, STOP_LIMIT}
 use Rattle.iot_event.specs.declared.event.Choice.{Choice}
 use Rattle.iot_event.specs.declared.event.NodeEvent.{NodeEvent}
@@ -23,7 +25,7 @@ use Rattle.iot_event.specs.Numbers.{is_number, number_of}
 use Rattle.iot_event.specs.Declarations.{MayBeNamed, IsWithin}
 use Rattle.iot_event.specs.Forms.{node_event, link_event, lone_task, lone_event, two_words}
 use Rattle.iot_event.specs.Forms.{loss_of, event_with, event_of_words, three_words, plain_choice, resolver_choice, script_task}
-use Rattle.iot_event.specs.Forms.{choosing_form, pick_of, node_form, stop_words, step_words, form_of}
+use Rattle.iot_event.specs.Forms.{choosing_form, pick_of, node_form, stop_words, step_words, walk_words, form_of}
 
 -- ---- what fits, whatever is declared
 
@@ -41,7 +43,7 @@ pub any_fits : {X : Type 0} (found : Option X) → Fits (λ x. Unit {0}) found
 any_fits None = none_fits
 any_fits (Some x) = record { fits = tt }
 
-if_fits : {X : Type 0} {P : X → Type 0} (test : Bool) (yes_ no_ : Option X) → Fits P yes_ → Fits P no_
+pub if_fits : {X : Type 0} {P : X → Type 0} (test : Bool) (yes_ no_ : Option X) → Fits P yes_ → Fits P no_
     → Fits P (if test then yes_ else no_)
 if_fits true yes_ no_ first second = first
 if_fits false yes_ no_ first second = second
@@ -63,14 +65,15 @@ then_fits f (Some x) fit follows = follows x fit.fits
 -- ---- a form's numbers and its path
 
 -- the path of a task is one, and its numbers are within the limits
-abbrev pub TaskFits : Task (List ℕ) → Type 0
+abbrev pub TaskFits : Task (List ℕ) (List ℕ) → Type 0
 TaskFits (tasks.Hoard path) = IsPath path
+TaskFits (tasks.Walk profile limit) = IsWalkLimit limit
 TaskFits (tasks.Step count transaction) = (1 ≤ count) × (count ≤ STEP_LIMIT) × MayBeNamed transaction
 TaskFits (tasks.End transaction) = MayBeNamed transaction
 TaskFits (tasks.Reads item) = (1 ≤ item) × (item ≤ READS_LIMIT)
 TaskFits _ = Unit {0}
 
-abbrev pub EventFits : ClientEvent (List ℕ) → Type 0
+abbrev pub EventFits : ClientEvent (List ℕ) (List ℕ) → Type 0
 EventFits (Node what) = IsWithin what
 EventFits (Link what) = Unit {0}
 EventFits (Does what) = TaskFits what
@@ -81,7 +84,7 @@ FormFits (forms.Server what) = IsWithin what
 FormFits _ = Unit {0}
 
 -- a number within its limit
-number_fits : (word : List ℕ) (limit : ℕ) → Fits (λ n. (1 ≤ n) × (n ≤ limit)) (number_of word limit)
+pub number_fits : (word : List ℕ) (limit : ℕ) → Fits (λ n. (1 ≤ n) × (n ≤ limit)) (number_of word limit)
 number_fits word limit = by (is_number word) (nat_le 1 number) (nat_le number limit) refl refl
   where
     number : ℕ
@@ -94,7 +97,7 @@ number_fits word limit = by (is_number word) (nat_le 1 number) (nat_le number li
     by true false most one two = none_fits
     by false least most one two = none_fits
 
-path_fits : (word : List ℕ) (path : Option (List (List ℕ))) → path_of word ≡ path → Fits IsPath path
+pub path_fits : (word : List ℕ) (path : Option (List (List ℕ))) → path_of word ≡ path → Fits IsPath path
 path_fits word None is = none_fits
 path_fits word (Some path) is = record { fits = (path_of-spells word path is).names }
 
@@ -162,7 +165,8 @@ two_words_fits first second =
 three_words_fits : (first second third : List ℕ) → Fits FormFits (three_words first second third)
 three_words_fits first second third =
     if_fits _ _ _ none_fits
-    (if_fits _ _ _ (some_fits (forms.Script second) tt) (map_fits _ _ (event_of_words_fits first third) (λ what fit. fit)))
+    (if_fits _ _ _ (some_fits (forms.Script second) tt)
+    (if_fits _ _ _ (some_fits (forms.Profile second) tt) (map_fits _ _ (event_of_words_fits first third) (λ what fit. fit))))
 
 stop_words_fits : (node calls pick : List ℕ) → Fits FormFits (stop_words node calls pick)
 stop_words_fits node calls pick =
@@ -176,12 +180,19 @@ step_words_fits client count transaction =
     (λ k few. map_fits _ _ (number_fits transaction TRANSACTION_LIMIT) (λ n within. (few.0, few.1, within))))
     none_fits
 
+walk_words_fits : (client profile limit : List ℕ) → Fits FormFits (walk_words client profile limit)
+walk_words_fits client profile limit =
+    if_fits _ _ _
+    (map_fits _ _ (number_fits limit WALK_LIMIT) (λ n within. record { least = within.0; most = within.1 }))
+    none_fits
+
 pub form_fits : (found : List (List ℕ)) → Fits FormFits (form_of found)
 form_fits [] = none_fits
 form_fits (a ∷ []) = if_fits _ _ _ (some_fits forms.Log tt) none_fits
 form_fits (a ∷ b ∷ []) = two_words_fits a b
 form_fits (a ∷ b ∷ c ∷ []) = three_words_fits a b c
 form_fits (a ∷ b ∷ c ∷ d ∷ []) =
-    if_fits _ _ _ (stop_words_fits b c d) (if_fits _ _ _ (step_words_fits b c d) (choosing_fits a b c (plain_choice d)))
+    if_fits _ _ _ (stop_words_fits b c d)
+    (if_fits _ _ _ (step_words_fits b c d) (if_fits _ _ _ (walk_words_fits b c d) (choosing_fits a b c (plain_choice d))))
 form_fits (a ∷ b ∷ c ∷ d ∷ e ∷ []) = choosing_fits a b c (resolver_choice d e)
 form_fits (a ∷ b ∷ c ∷ d ∷ e ∷ f ∷ more) = none_fits

@@ -1,4 +1,4 @@
--- Where a script ends.
+-- Where a script or a profile ends.
 use Rattle.std.specs.Prelude.{ℕ, ◌+◌, ◌-◌, ◌==◌, ◌||◌, Bool, false, List, [], ◌∷◌, ◌++◌, Option, Some, None, codes, bytes_eq, if◌then◌else◌}
 use Rattle.iot_lines.specs.Words.{words}
 
@@ -20,7 +20,7 @@ blocks_after line blocks =
     else if opens_block line then Some (blocks + 1)
     else Some blocks
 
--- the lines inside a script, the line that closes it, and the lines after that
+-- the lines inside a script or a profile, the line that closes it, and the lines after that
 pub record Closed : Type 0 where
   pub inside : List (List ℕ)
   pub closing : List ℕ
@@ -40,3 +40,11 @@ closed_at (Some blocks) line later go = with_lines (line ∷ []) (go blocks)
 abbrev pub closed_by : List (List ℕ) → ℕ → Option Closed
 closed_by [] blocks = None
 closed_by (line ∷ later) blocks = closed_at (blocks_after (words line) blocks) line later (λ n. closed_by later n)
+
+-- the profile that is open before these lines: the first line whose only word is `}` closes it
+abbrev pub first_closing : List (List ℕ) → Option Closed
+first_closing [] = None
+first_closing (line ∷ later) =
+    if is_closing (words line)
+    then Some (record { inside = []; closing = line; later = later })
+    else with_lines (line ∷ []) (first_closing later)

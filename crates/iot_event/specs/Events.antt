@@ -1,15 +1,17 @@
 -- Which events an input gives, or which fault its first bad line has.
-use Rattle.std.specs.Prelude.{ℕ, ◌≡◌, ◌+◌, List, [], ◌∷◌, ◌++◌, length, option_to_list, Option, Some, None}
+use Rattle.std.specs.Prelude.{ℕ, ◌≡◌, ◌+◌, List, [], ◌∷◌, ◌++◌, length, option_to_list, Option, Some, None, Result, Ok, Err}
 use Rattle.iot_lines.specs.Lines.{lines}
 use Rattle.iot_lang.specs.Code.{Code}
+use Rattle.iot_tree.specs.Profiles.{Profile as Wishes}
 use Rattle.iot_event.specs.Closing.{Closed}
 use Rattle.iot_event.specs.Scripts.{SpellsScript, HasScriptFault}
-use Rattle.iot_event.specs.Meanings.{Scope, nothing_declared, Meaning, Refused, Skipped, Says, Opens, meaning_of}
+use Rattle.iot_event.specs.Profiles.{profile_of}
+use Rattle.iot_event.specs.Meanings.{Scope, nothing_declared, Meaning, Refused, Skipped, Says, Opens, Lists, meaning_of}
 use Rattle.iot_event.specs.declared.event.Event.{Event}
-use Rattle.iot_event.specs.declared.event.Event.TheVariants.{Script}
+use Rattle.iot_event.specs.declared.event.Event.TheVariants.{Script, Profile}
 use Rattle.iot_event.specs.declared.fault.EventFault.{EventFault}
 
--- what a line comes to, with the lines of its script: a fault; or an event or none, what is known after it, the lines that are left,
+-- what a line comes to, with the lines of its script or profile: a fault; or an event or none, what is known after it, the lines that are left,
 -- and the number of the first of those
 pub data Step : Type 0 where
   Stops : (fault : EventFault) → Step
@@ -22,12 +24,23 @@ IsScriptStep name script after first (Goes event scope rest number) =
     (code : Code) × SpellsScript script code
     × (Goes event scope rest number ≡ Goes (Some (Script name code)) after script.later (first + length script.inside + 1))
 
+-- what is known after this profile, too
+abbrev pub with_profile : Scope → (name : List ℕ) → Wishes → Scope
+with_profile scope name profile = record scope { profiles = scope.profiles ++ (name, profile) ∷ [] }
+
+-- a profile of this name, whose first line inside has this number, and what its lines are
+abbrev pub profile_step : (name : List ℕ) (block : Closed) (scope : Scope) (first : ℕ) → Result Wishes EventFault → Step
+profile_step name block scope first (Err fault) = Stops fault
+profile_step name block scope first (Ok profile) =
+    Goes (Some (Profile name profile)) (with_profile scope name profile) block.later (first + length block.inside + 1)
+
 -- a line of this meaning and number, before these lines
 abbrev pub IsStepOf : Meaning → Scope → (number : ℕ) (later : List (List ℕ)) → Step → Type 0
 IsStepOf (Refused fault) scope number later step = step ≡ Stops fault
 IsStepOf Skipped scope number later step = step ≡ Goes None scope later (number + 1)
 IsStepOf (Says event after) scope number later step = step ≡ Goes (Some event) after later (number + 1)
 IsStepOf (Opens name script after) scope number later step = IsScriptStep name script after (number + 1) step
+IsStepOf (Lists name block) scope number later step = step ≡ profile_step name block scope (number + 1) (profile_of block (number + 1))
 
 abbrev pub IsStep : Scope → (number : ℕ) (line : List ℕ) (later : List (List ℕ)) → Step → Type 0
 IsStep scope number line later step = IsStepOf (meaning_of scope number line later) scope number later step

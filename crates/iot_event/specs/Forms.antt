@@ -5,6 +5,7 @@ use Rattle.iot_text.specs.Names.{is_name}
 use Rattle.iot_text.specs.Paths.{path_of}
 use Rattle.iot_link.specs.declared.passages.Loss.{Loss}
 use Rattle.iot_link.specs.declared.passages.Loss.TheVariants.{Request, Reply}
+use Rattle.iot_tree.specs.declared.limits.TheConstants.{WALK_LIMIT}
 use Rattle.iot_disk.specs.declared.disk.Pick.{Pick}
 use Rattle.iot_disk.specs.declared.disk.Pick.TheVariants.{Old, New, Fill}
 use Rattle.iot_event.specs.Numbers.{number_of, byte_of}
@@ -16,12 +17,12 @@ use Rattle.iot_event.specs.declared.event.NodeEvent.TheVariants.{Show, Stop, Cra
 use Rattle.iot_event.specs.declared.event.LinkEvent.{LinkEvent}
 use Rattle.iot_event.specs.declared.event.LinkEvent.TheVariants.{Connect, Disconnect, Lose}
 use Rattle.iot_event.specs.declared.event.Task as tasks
-use Rattle.iot_event.specs.declared.event.Task.TheVariants.{Run, Hoard, Refresh, Begin, Step, End}
+use Rattle.iot_event.specs.declared.event.Task.TheVariants.{Run, Hoard, Refresh, Walk, Begin, Step, End}
 use Rattle.iot_event.specs.declared.event.Task.TheVariants.{Sync, Drain, Repair, Discard, Queue, Reads}
 use Rattle.iot_event.specs.declared.event.ClientEvent.{ClientEvent}
 use Rattle.iot_event.specs.declared.event.ClientEvent.TheVariants.{Node, Link, Task}
 use Rattle.iot_event.specs.declared.form.Form.{Form}
-use Rattle.iot_event.specs.declared.form.Form.TheVariants.{Client, Script, At, Server, Log}
+use Rattle.iot_event.specs.declared.form.Form.TheVariants.{Client, Script, Profile, At, Server, Log}
 
 -- `log`
 abbrev pub one_word : List ℕ → Option Form
@@ -42,7 +43,7 @@ link_event word =
     else if bytes_eq word (codes "disconnect") then Some Disconnect
     else None
 
-abbrev pub lone_task : List ℕ → Option (tasks.Task (List ℕ))
+abbrev pub lone_task : List ℕ → Option (tasks.Task (List ℕ) (List ℕ))
 lone_task word =
     if bytes_eq word (codes "refresh") then Some Refresh
     else if bytes_eq word (codes "step") then Some (Step 1 None)
@@ -53,7 +54,7 @@ lone_task word =
     else if bytes_eq word (codes "queue") then Some Queue
     else None
 
-abbrev pub lone_event : List ℕ → Option (ClientEvent (List ℕ))
+abbrev pub lone_event : List ℕ → Option (ClientEvent (List ℕ) (List ℕ))
 lone_event word =
     option_or (option_map (λ what. Node what) (node_event word))
     (option_or (option_map (λ what. Link what) (link_event word)) (option_map (λ what. Task what) (lone_task word)))
@@ -83,7 +84,7 @@ loss_of word =
     else None
 
 -- `step C k`, `end C N`, `reads C i`, `lose C request`, `lose C reply` or `repair C S`, without the client
-abbrev pub event_with : List ℕ → List ℕ → Option (ClientEvent (List ℕ))
+abbrev pub event_with : List ℕ → List ℕ → Option (ClientEvent (List ℕ) (List ℕ))
 event_with first word =
     if bytes_eq first (codes "step") then option_map (λ count. Task (Step count None)) (number_of word STEP_LIMIT)
     else if bytes_eq first (codes "end") then option_map (λ number. Task (End (Some number))) (number_of word TRANSACTION_LIMIT)
@@ -93,15 +94,16 @@ event_with first word =
     else None
 
 -- the same, or `hoard C P`
-abbrev pub event_of_words : List ℕ → List ℕ → Option (ClientEvent (List ℕ))
+abbrev pub event_of_words : List ℕ → List ℕ → Option (ClientEvent (List ℕ) (List ℕ))
 event_of_words first word =
     if bytes_eq first (codes "hoard") then option_map (λ path. Task (Hoard path)) (path_of word) else event_with first word
 
--- `script N {`, or an event of a client that two words say
+-- `script N {`, `profile N {`, or an event of a client that two words say
 abbrev pub three_words : List ℕ → List ℕ → List ℕ → Option Form
 three_words first second third =
     if not (is_name second) then None
     else if bytes_eq first (codes "script") && bytes_eq third (codes "{") then Some (Script second)
+    else if bytes_eq first (codes "profile") && bytes_eq third (codes "{") then Some (Profile second)
     else option_map (λ what. At second what) (event_of_words first third)
 
 -- ---- lines of four and five words
@@ -119,7 +121,7 @@ abbrev pub resolver_choice : List ℕ → (script : List ℕ) → Option (Choice
 resolver_choice word script = if bytes_eq word (codes "resolver") && is_name script then Some (Resolver script) else None
 
 -- `run C S` or `begin C S`, with its option, without the client
-abbrev pub script_task : List ℕ → (script : List ℕ) → Choice (List ℕ) → Option (tasks.Task (List ℕ))
+abbrev pub script_task : List ℕ → (script : List ℕ) → Choice (List ℕ) → Option (tasks.Task (List ℕ) (List ℕ))
 script_task first script option =
     if bytes_eq first (codes "run") then Some (Run script option)
     else if bytes_eq first (codes "begin") then Some (Begin script option)
@@ -162,11 +164,17 @@ step_words client count transaction =
     (number_of count STEP_LIMIT)
     else None
 
--- `stop NODE k PICK`, `step C k N`, or `run C S OPTION` or `begin C S OPTION`, where the option is one word
+-- `walk C N LIMIT`, if the client and the profile are names and the limit is a number
+abbrev pub walk_words : (client profile limit : List ℕ) → Option Form
+walk_words client profile limit =
+    if is_name client && is_name profile then option_map (λ n. At client (Task (Walk profile n))) (number_of limit WALK_LIMIT) else None
+
+-- `stop NODE k PICK`, `step C k N`, `walk C N LIMIT`, or `run C S OPTION` or `begin C S OPTION`, where the option is one word
 abbrev pub four_words : List ℕ → List ℕ → List ℕ → List ℕ → Option Form
 four_words first second third fourth =
     if bytes_eq first (codes "stop") then stop_words second third fourth
     else if bytes_eq first (codes "step") then step_words second third fourth
+    else if bytes_eq first (codes "walk") then walk_words second third fourth
     else choosing_form first second third (plain_choice fourth)
 
 -- `run C S OPTION` or `begin C S OPTION`, where the option is two words

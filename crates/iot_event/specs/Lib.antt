@@ -3,6 +3,7 @@ pub mod Numbers
 pub mod Forms
 pub mod Closing
 pub mod Scripts
+pub mod Profiles
 pub mod Meanings
 pub mod Events
 pub mod Results

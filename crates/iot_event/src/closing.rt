@@ -1,13 +1,13 @@
-//! Where a script ends.
+//! Where a script or a profile ends.
 ghost use Rattle.std.specs.Prelude.{◌≡◌, ◌+◌, ◌<◌, ◌≤◌, ◌^◌, length, option_map, IfSome};
 ghost use Rattle.iot_lines.specs.Lines.{lines};
 ghost use Rattle.iot_lines.specs.Words.{words};
-ghost use Rattle.iot_event.specs.Closing.{is_closing, opens_block, blocks_after, closed_by};
+ghost use Rattle.iot_event.specs.Closing.{is_closing, opens_block, blocks_after, closed_by, first_closing};
 ghost use Rattle.iot_event.specs.Results.{closed_of};
 
 use iot_lines::{next_word, split_line};
 
-/// A script whose closing line was found.
+/// A script or a profile whose closing line was found.
 #[derive(Clone, Copy)]
 pub(crate) struct Closed<'a> {
     /// The lines inside, each with its newline.
@@ -81,6 +81,30 @@ pub(crate) fn find_closing(text: &[u8]) -> Option<Closed<'_>>
             });
         };
         blocks = open;
+        count += 1;
+        rest = later;
+    }
+    None
+}
+
+/// Finds the line that closes the profile which is open before a text. No blocks are counted.
+pub(crate) fn find_first_closing(text: &[u8]) -> Option<Closed<'_>>
+    ensures closed { option_map closed_of result ≡ first_closing (lines text.now) }
+    ensures count { IfSome result (λ block. block.count ≡ length (lines block.inside.now)) }
+    ensures inside { IfSome result (λ block. length block.inside.now ≤ length text.now) }
+    ensures shorter { IfSome result (λ block. block.count + length block.later.now < length text.now) }
+{
+    let mut count: u64 = 0;
+    let mut rest = text;
+    while let Some((line, later)) = split_line(rest) {
+        if is_closing(line) {
+            return Some(Closed {
+                inside: &text[..text.len() - rest.len()],
+                closing: line,
+                later,
+                count,
+            });
+        }
         count += 1;
         rest = later;
     }

@@ -1,19 +1,21 @@
 //! The lines of an event script, one at a time: what each says after the names that were declared before it.
-ghost use Rattle.std.specs.Prelude.{◌≡◌, ◌+◌, ◌<◌, ◌≤◌, ◌^◌, length, IfOk, Some};
+ghost use Rattle.std.specs.Prelude.{◌≡◌, ◌+◌, ◌<◌, ◌≤◌, ◌^◌, length, IfOk, Some, None};
 ghost use Rattle.iot_lines.specs.Lines.{lines};
-ghost use Rattle.iot_event.specs.Closing.{closed_by};
-ghost use Rattle.iot_event.specs.Meanings.{Scope, Meaning, nothing_declared, place_of, choice_of, task_of, event_of};
-ghost use Rattle.iot_event.specs.Meanings.{client_line, script_line, at_line, meaning_of_form};
+ghost use Rattle.iot_event.specs.Closing.{closed_by, first_closing};
+ghost use Rattle.iot_event.specs.Meanings.{Scope, Meaning, nothing_declared, place_of, profile_named, choice_of, task_of, event_of};
+ghost use Rattle.iot_event.specs.Meanings.{client_line, script_line, profile_line, at_line, meaning_of_form};
 ghost use Rattle.iot_event.specs.Events.{IsStep, IsStepOf};
-ghost use Rattle.iot_event.specs.Results.{scope_of, AnswersEvent, AnswersKnown, AnswersScript, Answers};
+ghost use Rattle.iot_event.specs.Results.{scope_of, AnswersEvent, AnswersKnown, AnswersFound, AnswersScript, AnswersProfile, Answers};
 
 use crate::bytes::fits_line;
-use crate::closing::{Closed, find_closing};
-use crate::event::{Choice, ClientEvent, Event, SharedScript, Task};
+use crate::closing::{Closed, find_closing, find_first_closing};
+use crate::event::{Choice, ClientEvent, Event, Task};
 use crate::fault::EventFault;
 use crate::form::{Form, form_of_line};
+use crate::profiles::parse_profile;
 use crate::script::parse_script;
-use indexmap::IndexSet;
+use crate::shared::{SharedProfile, SharedScript};
+use indexmap::{IndexMap, IndexSet};
 use iot_lines::is_skipped;
 use iot_text::{Name, NoMemory};
 use std::alloc::Global;
@@ -24,6 +26,9 @@ pub const CLIENT_LIMIT: usize = 8;
 /// How many scripts an input declares at most.
 pub const SCRIPT_LIMIT: usize = 256;
 
+/// How many profiles an input declares at most.
+pub const PROFILE_LIMIT: usize = 64;
+
 /// What the next lines come to: an event or none, the text that is left, and the number of its first line.
 #[derive(Drop)]
 pub(crate) struct Step<'a> {
@@ -32,11 +37,12 @@ pub(crate) struct Step<'a> {
     pub(crate) number: u64,
 }
 
-/// The names that were declared so far, in the order of declaration.
+/// The names that were declared so far, in the order of declaration, and the profiles that some of them name.
 #[derive(Drop)]
 pub(crate) struct Declared {
     clients: IndexSet<Name>,
     scripts: IndexSet<Name>,
+    profiles: IndexMap<Name, SharedProfile>,
 }
 
 /// The place of a name that a line gives, among those that were declared.
@@ -68,51 +74,76 @@ fn choice_of(
     }
 }
 
-/// What a client does by a line, with the places of its scripts among those that were declared.
-fn task_of(scripts: &IndexSet<Name>, task: Task<Name>, number: u64) -> Result<Task<u64>, EventFault>
-    ensures { AnswersKnown (task_of task scripts.now.keys) number result }
+/// The profile of a name that a line gives.
+fn profile_named(
+    profiles: &IndexMap<Name, SharedProfile>,
+    name: Name,
+    number: u64,
+) -> Result<SharedProfile, EventFault>
+    ensures { AnswersFound (profile_named name profiles.now.entries) number result }
 {
-    match task {
-        Task::Run { script, option } => {
-            let script = place_of(scripts, script, number)?;
-            let option = choice_of(scripts, option, number)?;
-            Ok(Task::Run { script, option })
-        }
-        Task::Hoard { path } => Ok(Task::Hoard { path }),
-        Task::Refresh => Ok(Task::Refresh),
-        Task::Begin { script, option } => {
-            let script = place_of(scripts, script, number)?;
-            let option = choice_of(scripts, option, number)?;
-            Ok(Task::Begin { script, option })
-        }
-        Task::Step { count, transaction } => Ok(Task::Step { count, transaction }),
-        Task::End { transaction } => Ok(Task::End { transaction }),
-        Task::Sync => Ok(Task::Sync),
-        Task::Drain => Ok(Task::Drain),
-        Task::Repair { script } => {
-            let script = place_of(scripts, script, number)?;
-            Ok(Task::Repair { script })
-        }
-        Task::Discard => Ok(Task::Discard),
-        Task::Queue => Ok(Task::Queue),
-        Task::Reads { item } => Ok(Task::Reads { item }),
+    match profiles.get(&name) {
+        Some(profile) => Ok(profile.share()?),
+        None => Err(EventFault::UnknownName { line: number }),
     }
 }
 
-/// The event of a client that a line gives, with the places of its scripts among those that were declared.
-fn event_of(
-    scripts: &IndexSet<Name>,
-    what: ClientEvent<Name>,
-    number: u64,
-) -> Result<ClientEvent<u64>, EventFault>
-    ensures { AnswersKnown (event_of what scripts.now.keys) number result }
-{
-    match what {
-        ClientEvent::Node(what) => Ok(ClientEvent::Node(what)),
-        ClientEvent::Link(what) => Ok(ClientEvent::Link(what)),
-        ClientEvent::Task(what) => {
-            let task = task_of(scripts, what, number)?;
-            Ok(ClientEvent::Task(task))
+impl Declared {
+    /// What a client does by a line, with the places of its scripts among those that were declared, and its profile.
+    fn task_of(
+        &self,
+        task: Task<Name, Name>,
+        number: u64,
+    ) -> Result<Task<u64, SharedProfile>, EventFault>
+        ensures { AnswersFound (task_of task self.now.scripts.keys self.now.profiles.entries) number result }
+    {
+        let scripts = &self.scripts;
+        match task {
+            Task::Run { script, option } => {
+                let script = place_of(scripts, script, number)?;
+                let option = choice_of(scripts, option, number)?;
+                Ok(Task::Run { script, option })
+            }
+            Task::Hoard { path } => Ok(Task::Hoard { path }),
+            Task::Refresh => Ok(Task::Refresh),
+            Task::Walk { profile, limit } => {
+                let profile = profile_named(&self.profiles, profile, number)?;
+                Ok(Task::Walk { profile, limit })
+            }
+            Task::Begin { script, option } => {
+                let script = place_of(scripts, script, number)?;
+                let option = choice_of(scripts, option, number)?;
+                Ok(Task::Begin { script, option })
+            }
+            Task::Step { count, transaction } => Ok(Task::Step { count, transaction }),
+            Task::End { transaction } => Ok(Task::End { transaction }),
+            Task::Sync => Ok(Task::Sync),
+            Task::Drain => Ok(Task::Drain),
+            Task::Repair { script } => {
+                let script = place_of(scripts, script, number)?;
+                Ok(Task::Repair { script })
+            }
+            Task::Discard => Ok(Task::Discard),
+            Task::Queue => Ok(Task::Queue),
+            Task::Reads { item } => Ok(Task::Reads { item }),
+        }
+    }
+
+    /// The event of a client that a line gives, with the places of its scripts among those that were declared, and its profile.
+    fn event_of(
+        &self,
+        what: ClientEvent<Name, Name>,
+        number: u64,
+    ) -> Result<ClientEvent<u64, SharedProfile>, EventFault>
+        ensures { AnswersFound (event_of what self.now.scripts.keys self.now.profiles.entries) number result }
+    {
+        match what {
+            ClientEvent::Node(what) => Ok(ClientEvent::Node(what)),
+            ClientEvent::Link(what) => Ok(ClientEvent::Link(what)),
+            ClientEvent::Task(what) => {
+                let task = self.task_of(what, number)?;
+                Ok(ClientEvent::Task(task))
+            }
         }
     }
 }
@@ -144,6 +175,7 @@ impl Declared {
         Declared {
             clients: IndexSet::new(alloc),
             scripts: IndexSet::new(alloc),
+            profiles: IndexMap::new(alloc),
         }
     }
 
@@ -186,17 +218,42 @@ impl Declared {
         Ok(script)
     }
 
+    /// `profile N {`, before this text.
+    fn profile_line<'a>(
+        &self,
+        name: Name,
+        later: &'a [u8],
+        number: u64,
+    ) -> Result<Closed<'a>, EventFault>
+        ensures line { AnswersProfile (profile_line (scope_of self.now) number name (first_closing (lines later.now))) name result }
+        ensures new { IfOk result (λ block. profile_named name self.now.profiles.entries ≡ None) }
+        ensures count { IfOk result (λ block. block.count ≡ length (lines block.inside.now)) }
+        ensures inside { IfOk result (λ block. length block.inside.now ≤ length later.now) }
+        ensures shorter { IfOk result (λ block. block.count + length block.later.now < length later.now) }
+    {
+        let Some(block) = find_first_closing(later) else {
+            return Err(EventFault::BadLine { line: number });
+        };
+        if self.profiles.contains_key(&name) {
+            return Err(EventFault::Twice { line: number });
+        }
+        if self.profiles.len() >= PROFILE_LIMIT {
+            return Err(EventFault::TooMany { line: number });
+        }
+        Ok(block)
+    }
+
     /// An event of the client of this name.
     fn at_line(
         &self,
         client: Name,
-        what: ClientEvent<Name>,
+        what: ClientEvent<Name, Name>,
         number: u64,
     ) -> Result<Event, EventFault>
         ensures { AnswersEvent (at_line (scope_of self.now) number client what) result self.now }
     {
         let client = place_of(&self.clients, client, number)?;
-        let what = event_of(&self.scripts, what, number)?;
+        let what = self.event_of(what, number)?;
         Ok(Event::At { client, what })
     }
 
@@ -226,6 +283,33 @@ impl Declared {
         })
     }
 
+    /// A profile, from the line after its first on.
+    fn profile<'a>(
+        &mut self,
+        alloc: Global,
+        name: Name,
+        later: &'a [u8],
+        number: u64,
+    ) -> Result<Step<'a>, EventFault>
+        requires { number + length later.now < 2 ^ 63 }
+        ensures line { Answers
+            (IsStepOf (profile_line (scope_of self.old) number name (first_closing (lines later.now)))
+            (scope_of self.old) number (lines later.now))
+            result self.new }
+        ensures shorter { IfOk result (λ step. length step.later.now ≤ length later.now) }
+        ensures number { IfOk result (λ step. step.number + length step.later.now ≤ number + 1 + length later.now) }
+    {
+        let block = self.profile_line(name, later, number)?;
+        let profile = parse_profile(alloc, &block, number + 1)?;
+        let shared = SharedProfile::new(alloc, profile)?;
+        self.profiles.insert(name, shared.share()?)?;
+        Ok(Step {
+            event: Some(Event::Profile(name, shared)),
+            later: block.later,
+            number: number + 1 + block.count + 1,
+        })
+    }
+
     /// A line of this form, before this text.
     fn by_form<'a>(
         &mut self,
@@ -245,6 +329,7 @@ impl Declared {
         match form {
             Form::Client(name) => after_line(self.client_line(name, number), later, number),
             Form::Script(name) => self.script(alloc, name, later, number),
+            Form::Profile(name) => self.profile(alloc, name, later, number),
             Form::At { client, what } => {
                 after_line(self.at_line(client, what, number), later, number)
             }
@@ -253,7 +338,7 @@ impl Declared {
         }
     }
 
-    /// Takes the line of this number, before this text, and with it the lines of its script.
+    /// Takes the line of this number, before this text, and with it the lines of its script or profile.
     pub(crate) fn take<'a>(
         &mut self,
         alloc: Global,

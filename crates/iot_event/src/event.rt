@@ -1,11 +1,8 @@
 //! Events: what an event script asks for.
+use crate::shared::{SharedProfile, SharedScript};
 use iot_disk::Pick;
-use iot_lang::Script;
 use iot_link::Loss;
-use iot_text::{Name, NoMemory, Path};
-use std::alloc::Global;
-use std::marker::Model;
-use std::rc::Rc;
+use iot_text::{Name, Path};
 
 /// What is done with a transaction that is in conflict. A resolver is a script: a line has its name, and an event its place among those
 /// that were declared, from 0.
@@ -54,9 +51,10 @@ pub enum LinkEvent {
     Lose(Loss),
 }
 
-/// What a client does, if it is alive. A line has the names of scripts, and an event their places among those that were declared, from 0.
+/// What a client does, if it is alive. A line has the names of scripts and profiles; an event has the places of scripts among those that
+/// were declared, from 0, and the profiles themselves.
 #[derive(Drop)]
-pub enum Task<S> {
+pub enum Task<S, P> {
     /// `run C S OPTION`: it runs the script. The option says what is done if that is in conflict.
     Run {
         script: S,
@@ -70,6 +68,12 @@ pub enum Task<S> {
 
     /// `refresh C`: it fetches anew what it knows.
     Refresh,
+
+    /// `walk C N LIMIT`: it takes along what this profile wishes, as much as fits into the limit, which is from 1 to 1,000,000.
+    Walk {
+        profile: P,
+        limit: u64,
+    },
 
     /// `begin C S OPTION`: it begins a transaction of the script. The option says what is done if that is in conflict.
     Begin {
@@ -114,7 +118,7 @@ pub enum Task<S> {
 
 /// An event of a client.
 #[derive(Drop)]
-pub enum ClientEvent<S> {
+pub enum ClientEvent<S, P> {
     /// Its node.
     Node(NodeEvent),
 
@@ -122,7 +126,7 @@ pub enum ClientEvent<S> {
     Link(LinkEvent),
 
     /// What it does itself.
-    Task(Task<S>),
+    Task(Task<S, P>),
 }
 
 /// One event. It has the places of clients and scripts among those that were declared, from 0.
@@ -134,83 +138,18 @@ pub enum Event {
     /// `script N {` up to its `}`: the script of this name can be run from now on.
     Script(Name, SharedScript),
 
+    /// `profile N {` up to its `}`: walks may name this profile from now on.
+    Profile(Name, SharedProfile),
+
     /// An event of the client at this place.
-    At { client: u64, what: ClientEvent<u64> },
+    At {
+        client: u64,
+        what: ClientEvent<u64, SharedProfile>,
+    },
 
     /// An event of the server.
     Server(NodeEvent),
 
     /// `log`: what was committed is printed.
     Log,
-}
-
-/// A script, shared by the event that declares it and all who run it. Contracts see it as its `Code`.
-#[derive(Drop)]
-pub struct SharedScript {
-    script: Rc<Script>,
-}
-
-impl Model for SharedScript {
-    ghost use Rattle.iot_lang.specs.Code.{Code, coded_code};
-
-    ghost Value = { Code };
-
-    ghost coded = { coded_code };
-
-    ghost view = { λ shared. shared.script.value };
-}
-
-impl SharedScript {
-    ghost use Rattle.std.specs.Prelude.{◌≡◌, IfOk};
-    ghost use Rattle.iot_lang.specs.Scripts.{IsScript};
-
-    /// Makes a script one that can be shared.
-    ///
-    /// # Errors
-    ///
-    /// Only if memory runs out.
-    pub fn new(alloc: Global, script: Script) -> Result<SharedScript, NoMemory>
-        ensures { IfOk result (λ shared. shared ≡ script) }
-    {
-        Ok(SharedScript {
-            script: Rc::new(alloc, script)?,
-        })
-    }
-
-    /// The script.
-    #[inline]
-    pub fn script(&self) -> &Script
-        ensures { result.now ≡ self.now }
-    {
-        &self.script
-    }
-
-    /// Shares the script, without copying it. Does not allocate.
-    ///
-    /// # Errors
-    ///
-    /// Only if it is shared more often than can be counted.
-    #[inline]
-    pub fn share(&self) -> Result<SharedScript, NoMemory>
-        ensures { IfOk result (λ shared. shared ≡ self.now) }
-    {
-        Ok(SharedScript {
-            script: Rc::clone(&self.script)?,
-        })
-    }
-
-    /// The script with its count of owners, for those who keep it while it runs. Does not allocate.
-    ///
-    /// # Errors
-    ///
-    /// Only if it is shared more often than can be counted.
-    #[inline]
-    pub fn shared(&self) -> Result<Rc<Script>, NoMemory>
-        ensures value { IfOk result (λ script. script.value ≡ self.now) }
-        ensures script { IsScript self.now }
-    {
-        // Some lines spell it, as each `Script`; its block says so.
-        let _ = self.script.block();
-        Rc::clone(&self.script)
-    }
 }

@@ -15,19 +15,20 @@ pub enum EventFault {
     #[error("out of memory")]
     NoMemory,
 
-    /// The line breaks the rule on bytes and length, has none of the forms, or opens a script that is not closed.
+    /// The line breaks the rule on bytes and length, has none of the forms, opens a script or a profile that is not closed, or is no wish
+    /// inside a profile.
     #[error("line {line}: bad line")]
     BadLine { line: u64 },
 
-    /// The line names a client or a script that no earlier line declares.
+    /// The line names a client, a script or a profile that no earlier line declares.
     #[error("line {line}: unknown name")]
     UnknownName { line: u64 },
 
-    /// The line declares a client or a script of a name that is taken.
+    /// The line declares a client, a script or a profile of a name that is taken.
     #[error("line {line}: named twice")]
     Twice { line: u64 },
 
-    /// The line declares a client or a script more than there may be.
+    /// The line declares a client, a script or a profile more than there may be, or is a wish more than a profile may have.
     #[error("line {line}: too many")]
     TooMany { line: u64 },
 

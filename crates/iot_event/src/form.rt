@@ -6,7 +6,7 @@ ghost use Rattle.iot_text.specs.Paths.{path_of};
 ghost use Rattle.iot_event.specs.Forms.{one_word, node_event, link_event, lone_task, lone_event, server_form, client_form, two_words};
 ghost use Rattle.iot_event.specs.Forms.{loss_of, event_with, event_of_words, three_words, plain_choice, resolver_choice};
 ghost use Rattle.iot_event.specs.Forms.{script_task, script_form, pick_of, node_form, stop_words, step_words, four_words, five_words};
-ghost use Rattle.iot_event.specs.Forms.{form_of};
+ghost use Rattle.iot_event.specs.Forms.{walk_words, form_of};
 
 use crate::event::{Choice, ClientEvent, LinkEvent, NodeEvent, Task};
 use crate::number::{byte_of, number_of};
@@ -14,6 +14,7 @@ use iot_disk::Pick;
 use iot_lines::split_words;
 use iot_link::Loss;
 use iot_text::{Name, NoMemory, Path, TextFault};
+use iot_tree::WALK_LIMIT;
 use std::alloc::Global;
 
 /// How many steps one line asks for at most.
@@ -37,10 +38,13 @@ pub(crate) enum Form {
     /// `script N {`
     Script(Name),
 
+    /// `profile N {`
+    Profile(Name),
+
     /// An event of the client of this name.
     At {
         client: Name,
-        what: ClientEvent<Name>,
+        what: ClientEvent<Name, Name>,
     },
 
     /// An event of the server.
@@ -58,7 +62,7 @@ fn name_of(word: &[u8]) -> Option<Name>
 }
 
 /// A word as the text of a path, if it is one.
-fn path_of(alloc: Global, word: &[u8]) -> Result<Option<Path>, NoMemory>
+pub(crate) fn path_of(alloc: Global, word: &[u8]) -> Result<Option<Path>, NoMemory>
     ensures { IfOk result (λ path. path ≡ path_of word.now) }
 {
     match Path::parse(alloc, word) {
@@ -108,7 +112,7 @@ fn link_event(word: &[u8]) -> Option<LinkEvent>
 }
 
 /// What a client does, if this word alone says it.
-fn lone_task(word: &[u8]) -> Option<Task<Name>>
+fn lone_task(word: &[u8]) -> Option<Task<Name, Name>>
     ensures { result ≡ lone_task word.now }
 {
     if word == b"refresh".as_slice() {
@@ -139,7 +143,7 @@ fn lone_task(word: &[u8]) -> Option<Task<Name>>
 }
 
 /// The event of a client that this word alone says.
-fn lone_event(word: &[u8]) -> Option<ClientEvent<Name>>
+fn lone_event(word: &[u8]) -> Option<ClientEvent<Name, Name>>
     ensures { result ≡ lone_event word.now }
 {
     if let Some(what) = node_event(word) {
@@ -198,7 +202,7 @@ fn loss_of(word: &[u8]) -> Option<Loss>
 }
 
 /// What the first word says of a client with this one, if that is no hoard.
-fn event_with(first: &[u8], word: &[u8]) -> Option<ClientEvent<Name>>
+fn event_with(first: &[u8], word: &[u8]) -> Option<ClientEvent<Name, Name>>
     ensures { result ≡ event_with first.now word.now }
 {
     if first == b"step".as_slice() {
@@ -233,7 +237,7 @@ fn event_of_words(
     alloc: Global,
     first: &[u8],
     word: &[u8],
-) -> Result<Option<ClientEvent<Name>>, NoMemory>
+) -> Result<Option<ClientEvent<Name, Name>>, NoMemory>
     ensures { IfOk result (λ event. event ≡ event_of_words first.now word.now) }
 {
     if first != b"hoard".as_slice() {
@@ -259,6 +263,9 @@ fn three_words(
     };
     if first == b"script".as_slice() && third == b"{".as_slice() {
         return Ok(Some(Form::Script(name)));
+    }
+    if first == b"profile".as_slice() && third == b"{".as_slice() {
+        return Ok(Some(Form::Profile(name)));
     }
     match event_of_words(alloc, first, third)? {
         Some(what) => Ok(Some(Form::At { client: name, what })),
@@ -293,7 +300,7 @@ fn resolver_choice(word: &[u8], script: &[u8]) -> Option<Choice<Name>>
 }
 
 /// What a client does with this script and this option, if the word says it.
-fn script_task(first: &[u8], script: Name, option: Choice<Name>) -> Option<Task<Name>>
+fn script_task(first: &[u8], script: Name, option: Choice<Name>) -> Option<Task<Name, Name>>
     ensures { result ≡ script_task first.now script option }
 {
     if first == b"run".as_slice() {
@@ -363,6 +370,19 @@ fn step_words(client: &[u8], count: &[u8], transaction: &[u8]) -> Option<Form>
     })
 }
 
+/// The form of a line that has a client take along what this profile wishes, within this limit.
+fn walk_words(client: &[u8], profile: &[u8], limit: &[u8]) -> Option<Form>
+    ensures { result ≡ walk_words client.now profile.now limit.now }
+{
+    let client = name_of(client)?;
+    let profile = name_of(profile)?;
+    let limit = number_of(limit, WALK_LIMIT)?;
+    Some(Form::At {
+        client,
+        what: ClientEvent::Task(Task::Walk { profile, limit }),
+    })
+}
+
 /// The form of a line of four words.
 fn four_words(first: &[u8], second: &[u8], third: &[u8], fourth: &[u8]) -> Option<Form>
     ensures { result ≡ four_words first.now second.now third.now fourth.now }
@@ -372,6 +392,9 @@ fn four_words(first: &[u8], second: &[u8], third: &[u8], fourth: &[u8]) -> Optio
     }
     if first == b"step".as_slice() {
         return step_words(second, third, fourth);
+    }
+    if first == b"walk".as_slice() {
+        return walk_words(second, third, fourth);
     }
     script_form(
         first,

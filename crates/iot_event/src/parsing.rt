@@ -12,9 +12,10 @@ use std::alloc::Global;
 
 /// Parses an event script: the events that it asks for, in order.
 ///
-/// A line has at most `LINE_LIMIT` bytes; there are at most `CLIENT_LIMIT` clients and `SCRIPT_LIMIT` scripts; a line asks for
-/// at most `STEP_LIMIT` steps, and names running transactions with at most `TRANSACTION_LIMIT` as their number, and at most the
-/// `READS_LIMIT`-th transaction that waits.
+/// A line has at most `LINE_LIMIT` bytes; there are at most `CLIENT_LIMIT` clients, `SCRIPT_LIMIT` scripts and `PROFILE_LIMIT` profiles;
+/// a line asks for at most `STEP_LIMIT` steps, and names running transactions with at most `TRANSACTION_LIMIT` as their number, and at
+/// most the `READS_LIMIT`-th transaction that waits. A profile has at most `iot_tree::WISH_LIMIT` wishes, whose priorities are at most
+/// `iot_tree::PRIORITY_LIMIT`, and a walk has at most `iot_tree::WALK_LIMIT` as its limit.
 ///
 /// # Errors
 ///

@@ -54,7 +54,7 @@ script line inside code name before after opens fits deep spelled = record {
 -- ---- clients
 
 abbrev so_many : List (List ℕ) → Scope
-so_many names = record { clients = names; scripts = [] }
+so_many names = record { clients = names; scripts = []; profiles = [] }
 
 clients_lead : Leads (map client_line clients) nothing_declared (declared [])
 unfolding digits is_name

@@ -22,7 +22,7 @@ script_names count = codes "init" ∷ map (λ i. codes "add" ++ decimal i) (take
 
 -- all clients, and these scripts
 abbrev pub declared : List (List ℕ) → Scope
-declared scripts = record { clients = client_names; scripts = scripts }
+declared scripts = record { clients = client_names; scripts = scripts; profiles = [] }
 
 abbrev pub all_declared : Scope
 all_declared = declared (script_names 8 ++ codes "look" ∷ [])
