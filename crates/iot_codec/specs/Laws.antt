@@ -8,6 +8,7 @@ pub mod Modes
 pub mod Options
 pub mod Parts
 pub mod Places
+pub mod Profiles
 pub mod Questions
 pub mod Rising
 pub mod Sorted

@@ -24,8 +24,12 @@ use Rattle.iot_tree.specs.declared.nodes.Mode.{Mode}
 use Rattle.iot_tree.specs.declared.nodes.Mode.TheVariants as modes
 use Rattle.iot_tree.specs.declared.nodes.Node.{Node}
 use Rattle.iot_tree.specs.declared.nodes.Node.TheVariants.{Dir, File, FarDir, FarFile}
+use Rattle.iot_tree.specs.declared.profile.Reach.{Reach}
+use Rattle.iot_tree.specs.declared.profile.Reach.TheVariants as reaches
+use Rattle.iot_tree.specs.declared.profile.Wish.{Wish}
 use Rattle.iot_tree.specs.declared.want.Want.{Want}
 use Rattle.iot_tree.specs.declared.want.Want.TheVariants as wants
+use Rattle.iot_tree.specs.Profiles.{Profile}
 use Rattle.iot_tree.specs.Tree.{Nodes, Path, Row}
 
 -- a number: 8 bytes, most significant first
@@ -211,3 +215,16 @@ stamped_rows_spelling rows = table_spelling path_spelling stamped_node_spelling 
 -- changes: the rows, and then the paths that are gone
 unfoldable pub changes_spelling : Changes → List ℕ
 changes_spelling changes = stamped_rows_spelling changes.rows ++ paths_spelling changes.gone
+
+-- how far a wish reaches
+unfoldable pub reach_spelling : Reach → List ℕ
+reach_spelling reaches.Path = 0 ∷ []
+reach_spelling reaches.Below = 1 ∷ []
+
+-- a wish: its priority, its path, and how far it reaches
+unfoldable pub wish_spelling : Wish → List ℕ
+wish_spelling wish = number_spelling wish.priority ++ (path_spelling wish.path ++ reach_spelling wish.reach)
+
+-- a profile: the list of its wishes
+abbrev pub profile_spelling : Profile → List ℕ
+profile_spelling profile = list_spelling wish_spelling profile

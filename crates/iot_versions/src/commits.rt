@@ -24,7 +24,9 @@ pub fn is_old_commit(alloc: Global, bytes: &[u8]) -> Result<bool, NoMemory>
         Ok(Request::Commit { label, access, .. }) => {
             Ok(is_old_label(&label) && is_old_access(&access))
         }
-        Ok(Request::Refresh { .. }) | Err(CodecFault::Malformed { .. }) => Ok(false),
+        Ok(Request::Refresh { .. } | Request::Walk { .. }) | Err(CodecFault::Malformed { .. }) => {
+            Ok(false)
+        }
         Err(CodecFault::NoMemory) => Err(NoMemory),
     }
 }

@@ -22,17 +22,22 @@ use Rattle.iot_tree.specs.declared.labels.OnConflict.{OnConflict}
 use Rattle.iot_tree.specs.declared.labels.OnConflict.TheVariants.{Reexec, Resolver, Abort, Manual}
 use Rattle.iot_tree.specs.declared.labels.Way.{Way}
 use Rattle.iot_tree.specs.declared.labels.Way.TheVariants.{Certified, Reexecuted, Resolved}
-use Rattle.iot_tree.specs.declared.limits.TheConstants.{ACT_LIMIT, CONTENTS_LIMIT}
+use Rattle.iot_tree.specs.declared.limits.TheConstants.{ACT_LIMIT, CONTENTS_LIMIT, PRIORITY_LIMIT, WALK_LIMIT, WISH_LIMIT}
 use Rattle.iot_tree.specs.declared.changes.Changes.{Changes}
 use Rattle.iot_tree.specs.declared.nodes.Mode.{Mode}
 use Rattle.iot_tree.specs.declared.nodes.Mode.TheVariants as modes
 use Rattle.iot_tree.specs.declared.nodes.Node.{Node}
 use Rattle.iot_tree.specs.declared.nodes.Node.TheVariants.{Dir, File, FarDir, FarFile}
+use Rattle.iot_tree.specs.declared.profile.Reach.{Reach}
+use Rattle.iot_tree.specs.declared.profile.Reach.TheVariants as reaches
+use Rattle.iot_tree.specs.declared.profile.Wish.{Wish}
 use Rattle.iot_tree.specs.declared.want.Want.{Want}
 use Rattle.iot_tree.specs.declared.want.Want.TheVariants as wants
+use Rattle.iot_tree.specs.Profiles.{Profile}
 use Rattle.iot_tree.specs.Rows.{map_of}
 use Rattle.iot_tree.specs.Tree.{Nodes, Path, Row}
-use Rattle.iot_views.specs.Decoders.{Decoder, ◌>>=◌, done, tested, bytes_at, number_at, at_most, items_at, list_at, tagged, optional_at}
+use Rattle.iot_views.specs.Decoders.{Decoder, ◌>>=◌, done, tested, bytes_at, number_at, at_most, from_to, items_at, list_at, tagged}
+use Rattle.iot_views.specs.Decoders.{optional_at}
 use Rattle.iot_views.specs.Rules.{is_printable, is_content_byte, rises, is_after, path_follows, node_follows}
 
 -- bytes that are a name
@@ -282,3 +287,24 @@ changes_at = do
   rows ← stamped_rows_at
   gone ← paths_at
   done (record { rows = rows; gone = gone })
+
+-- how far a wish reaches: 0 for its path, 1 for the paths below it, too
+unfoldable pub reach_at : Decoder Reach
+reach_at = tagged ((0, done reaches.Path) ∷ (1, done reaches.Below) ∷ [])
+
+unfoldable pub wish_at : Decoder Wish
+wish_at = do
+  priority ← from_to 1 PRIORITY_LIMIT
+  path ← path_at
+  reach ← reach_at
+  done (record { priority = priority; path = path; reach = reach })
+
+-- wishes, not too many
+unfoldable pub profile_at : Decoder Profile
+profile_at = do
+  n ← at_most WISH_LIMIT
+  items_at (λ _. wish_at) n None
+
+-- a limit within which paths are taken along
+abbrev pub walk_limit_at : Decoder ℕ
+walk_limit_at = from_to 1 WALK_LIMIT

@@ -22,6 +22,8 @@ pub use labels::{FileViews, LabelView, label_at, way_at};
 pub use lists::{Lent, Views};
 pub use modes::mode_at;
 pub use names::{NameViews, PathView};
-pub use parts::{Malformed, at_most, bytes_at, contents_at, fault_at, line_at, number_at, tag_at};
+pub use parts::{
+    Malformed, at_most, bytes_at, contents_at, fault_at, from_to, line_at, number_at, tag_at,
+};
 pub use questions::{AnswerView, QuestionView, ReadView, ReadViews};
 pub use updates::{UpdateView, UpdateViews};

@@ -2,7 +2,7 @@
 ghost use Rattle.std.specs.Prelude.{◌≡◌, ◌<◌, length, slice_get, IfSome};
 ghost use Rattle.std.specs.List.{list_all};
 ghost use Rattle.iot_views.specs.Outcomes.{IsLent};
-ghost use Rattle.iot_views.specs.Decoders.{bytes_at, number_at, at_most};
+ghost use Rattle.iot_views.specs.Decoders.{bytes_at, number_at, at_most, from_to};
 ghost use Rattle.iot_views.specs.Listed.{counted_at};
 ghost use Rattle.iot_views.specs.Decoding.{name_at, contents_at, line_at};
 ghost use Rattle.iot_views.specs.Rules.{is_content_byte, is_printable};
@@ -68,6 +68,26 @@ pub fn at_most(limit: u64, bytes: &[u8], at: usize) -> Result<(u64, usize), Malf
 {
     let (number, end) = number_at(bytes, at)?;
     if limit < number {
+        return Err(fault_at(at));
+    }
+    Ok((number, end))
+}
+
+/// A number from the least to the greatest at the offset, and the offset after it.
+#[inline]
+pub fn from_to(
+    least: u64,
+    greatest: u64,
+    bytes: &[u8],
+    at: usize,
+) -> Result<(u64, usize), Malformed>
+    ensures { IsLent (λ number. number) result (from_to least greatest bytes.now at) }
+{
+    let (number, end) = number_at(bytes, at)?;
+    if number < least {
+        return Err(fault_at(at));
+    }
+    if greatest < number {
         return Err(fault_at(at));
     }
     Ok((number, end))

@@ -14,7 +14,7 @@ use Rattle.iot_wire.specs.Lent.{IsCommitAt, request_of}
 use Rattle.iot_wire.specs.Submissions.{Submission}
 use Rattle.iot_wire.specs.declared.effects.Effects.{Effects}
 use Rattle.iot_wire.specs.declared.requests.Request.{Request}
-use Rattle.iot_wire.specs.declared.requests.Request.TheVariants.{Commit, Refresh}
+use Rattle.iot_wire.specs.declared.requests.Request.TheVariants.{Commit, Refresh, Walk}
 
 -- what goes on after a value has decoded that value
 step : {X Y : Type 0} (read : Result (X × ℕ) ℕ) (next : X → ℕ → Result (Y × ℕ) ℕ) (y : Y × ℕ) → go_on read next ≡ Ok y
@@ -41,6 +41,7 @@ access_updates bytes at access end is =
 commit_of : Submission → Result (Request × ℕ) ℕ → Submission
 commit_of none (Ok (Commit label access lines, end)) = (label, (access, lines))
 commit_of none (Ok (Refresh client known want, end)) = none
+commit_of none (Ok (Walk client profile limit, end)) = none
 commit_of none (Err at) = none
 
 commit_parts : (bytes : List ℕ) (at : ℕ) (commit : Submission) (end : ℕ) → commit_at bytes at ≡ Ok (request_of commit, end)

@@ -1,26 +1,30 @@
 -- The laws of messages: what is decoded is what is spelled.
 use Rattle.std.proofs.Common.{◌≡◌, ℕ, ◌+◌, ◌<◌, ◌≤◌, ◌^◌, List, [], ◌∷◌, ◌++◌, length, Ok, refl, ◌∙◌, arith}
+use Rattle.iot_tree.specs.Profiles.{IsProfile, IsWalkLimit}
 use Rattle.iot_codec.specs.Places.{LiesAt, IsSpelling}
 use Rattle.iot_views.specs.Decoders.{Decoder, ◌>>=◌, go_on, done, number_at, at_most}
-use Rattle.iot_views.specs.Decoding.{known_at, want_at, label_at, access_at, lines_at, changes_at, answer_at}
+use Rattle.iot_views.specs.Decoding.{known_at, want_at, label_at, access_at, lines_at, changes_at, answer_at, profile_at}
+use Rattle.iot_views.specs.Decoding.{walk_limit_at}
 use Rattle.iot_views.specs.Rules.{IsNumber, AreKnown, IsWant, IsLabel, IsAccess, AreLines, AreChanges, IsAnswer}
 use Rattle.iot_codec.specs.Spelling.{number_spelling, known_spelling, want_spelling, label_spelling, access_spelling, lines_spelling}
-use Rattle.iot_codec.specs.Spelling.{changes_spelling, answer_spelling}
+use Rattle.iot_codec.specs.Spelling.{changes_spelling, answer_spelling, profile_spelling}
 use Rattle.iot_codec.specs.Laws.Changes.{known_laws, changes_laws}
 use Rattle.iot_codec.specs.Laws.Labels.{label_laws}
 use Rattle.iot_codec.specs.Laws.Parts.{number_laws, at_most_laws}
 use Rattle.iot_codec.specs.Laws.Places.{lies_then, lies_first, lies_second, lies_after_tag}
+use Rattle.iot_codec.specs.Laws.Profiles.{profile_laws, walk_limit_laws}
 use Rattle.iot_codec.specs.Laws.Questions.{answer_laws}
 use Rattle.iot_codec.specs.Laws.Steps.{step, carried}
 use Rattle.iot_codec.specs.Laws.Tags.{IsAfter, IsArm, single_arm, double_arm, tagged_found, tagged_again, single_again, double_again}
 use Rattle.iot_codec.specs.Laws.Bases.{access_laws}
 use Rattle.iot_codec.specs.Laws.Values.{lines_laws}
 use Rattle.iot_codec.specs.Laws.Wants.{want_laws}
-use Rattle.iot_wire.specs.Decoding.{refresh_at, commit_at, request_at, objects_at, committed_at, already_at, conflict_at, reply_at}
+use Rattle.iot_wire.specs.Decoding.{refresh_at, commit_at, walk_at, request_at, objects_at, committed_at, already_at}
+use Rattle.iot_wire.specs.Decoding.{conflict_at, reply_at}
 use Rattle.iot_wire.specs.Rules.{IsRequest, IsReply}
 use Rattle.iot_wire.specs.Spelling.{request_spelling, reply_spelling}
 use Rattle.iot_wire.specs.declared.requests.Request.{Request}
-use Rattle.iot_wire.specs.declared.requests.Request.TheVariants.{Refresh, Commit}
+use Rattle.iot_wire.specs.declared.requests.Request.TheVariants.{Refresh, Commit, Walk}
 use Rattle.iot_wire.specs.declared.replies.Reply.{Reply}
 use Rattle.iot_wire.specs.declared.replies.Reply.TheVariants.{Objects, Committed, Already, Conflict}
 
@@ -81,7 +85,7 @@ client_laws : IsSpelling (λ n. n ≤ 7) number_spelling (at_most 7)
 client_laws = at_most_laws 7 (omega arith)
 
 request_table : List (ℕ × Decoder Request)
-request_table = (1, refresh_at) ∷ (2, commit_at) ∷ []
+request_table = (1, refresh_at) ∷ (2, commit_at) ∷ (3, walk_at) ∷ []
 
 refresh_arm : IsArm IsRequest request_spelling 1 refresh_at
 unfolding refresh_at request_spelling
@@ -95,9 +99,16 @@ commit_arm =
     triple_arm IsLabel label_spelling label_at label_laws IsAccess access_spelling access_at access_laws AreLines lines_spelling lines_at
     lines_laws IsRequest request_spelling 2 Commit (λ label access lines l a n. (l, (a, n))) (λ label access lines. refl)
 
+walk_arm : IsArm IsRequest request_spelling 3 walk_at
+unfolding walk_at request_spelling
+walk_arm =
+    triple_arm (λ n. n ≤ 7) number_spelling (at_most 7) client_laws IsProfile profile_spelling profile_at profile_laws IsWalkLimit
+    number_spelling walk_limit_at walk_limit_laws IsRequest request_spelling 3 Walk (λ client profile limit c p l. (c, (p, l)))
+    (λ client profile limit. refl)
+
 request_again : (r : Request) (bytes : List ℕ) (at end : ℕ) → length bytes < 2 ^ 64 → IsRequest r → LiesAt bytes at (request_spelling r) end
     → request_at bytes at ≡ Ok (r, end)
-unfolding request_at request_table refresh_at commit_at request_spelling
+unfolding request_at request_table refresh_at commit_at walk_at request_spelling
 request_again (Refresh client known want) bytes at end short has p =
     tagged_again request_table bytes at end 1 (number_spelling client ++ (known_spelling known ++ want_spelling want)) p
     ∙ triple_again (λ n. n ≤ 7) number_spelling (at_most 7) client_laws AreKnown known_spelling known_at known_laws IsWant want_spelling
@@ -106,17 +117,22 @@ request_again (Commit label access lines) bytes at end short has p =
     tagged_again request_table bytes at end 2 (label_spelling label ++ (access_spelling access ++ lines_spelling lines)) p
     ∙ triple_again IsLabel label_spelling label_at label_laws IsAccess access_spelling access_at access_laws AreLines lines_spelling
     lines_at lines_laws Commit label access lines bytes at end 2 short has.0 has.1.0 has.1.1 p
+request_again (Walk client profile limit) bytes at end short has p =
+    tagged_again request_table bytes at end 3 (number_spelling client ++ (profile_spelling profile ++ number_spelling limit)) p
+    ∙ triple_again (λ n. n ≤ 7) number_spelling (at_most 7) client_laws IsProfile profile_spelling profile_at profile_laws IsWalkLimit
+    number_spelling walk_limit_at walk_limit_laws Walk client profile limit bytes at end 3 short has.0 has.1.0 has.1.1 p
 
 request_some : (r : Request) → 0 < length (request_spelling r)
 unfolding request_spelling
 request_some (Refresh client known want) = omega arith
 request_some (Commit label access lines) = omega arith
+request_some (Walk client profile limit) = omega arith
 
 pub request_laws : IsSpelling IsRequest request_spelling request_at
 unfolding request_at request_table
 request_laws = record {
   found = λ bytes at read fit e.
-      tagged_found IsRequest request_spelling request_table bytes at read (refresh_arm, (commit_arm, tt)) fit e;
+      tagged_found IsRequest request_spelling request_table bytes at read (refresh_arm, (commit_arm, (walk_arm, tt))) fit e;
   only = λ bytes at read short p. request_again read.0 bytes at read.1 short p.value p.place;
   some = request_some;
 }

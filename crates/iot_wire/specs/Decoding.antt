@@ -2,9 +2,10 @@
 use Rattle.std.specs.Prelude.{[], ◌∷◌}
 use Rattle.iot_views.specs.Decoders.{Decoder, ◌>>=◌, done, number_at, at_most, tagged}
 use Rattle.iot_views.specs.Decoding.{known_at, want_at, label_at, bases_at, updates_at, access_at, lines_at, changes_at, answer_at}
+use Rattle.iot_views.specs.Decoding.{profile_at, walk_limit_at}
 use Rattle.iot_wire.specs.declared.effects.Effects.{Effects}
 use Rattle.iot_wire.specs.declared.requests.Request.{Request}
-use Rattle.iot_wire.specs.declared.requests.Request.TheVariants.{Refresh, Commit}
+use Rattle.iot_wire.specs.declared.requests.Request.TheVariants.{Refresh, Commit, Walk}
 use Rattle.iot_wire.specs.declared.replies.Reply.{Reply}
 use Rattle.iot_wire.specs.declared.replies.Reply.TheVariants.{Objects, Committed, Already, Conflict}
 
@@ -30,9 +31,16 @@ commit_at = do
   lines ← lines_at
   done (Commit label access lines)
 
+unfoldable pub walk_at : Decoder Request
+walk_at = do
+  client ← at_most 7
+  profile ← profile_at
+  limit ← walk_limit_at
+  done (Walk client profile limit)
+
 -- a request: what a tag is followed by
 unfoldable pub request_at : Decoder Request
-request_at = tagged ((1, refresh_at) ∷ (2, commit_at) ∷ [])
+request_at = tagged ((1, refresh_at) ∷ (2, commit_at) ∷ (3, walk_at) ∷ [])
 
 unfoldable pub objects_at : Decoder Reply
 objects_at = do

@@ -4,7 +4,7 @@ use Rattle.iot_views.specs.declared.parts.Malformed.{Malformed}
 use Rattle.iot_wire.specs.Decoding.{commit_at}
 use Rattle.iot_wire.specs.Submissions.{Submission}
 use Rattle.iot_wire.specs.declared.requests.Request.{Request}
-use Rattle.iot_wire.specs.declared.requests.Request.TheVariants.{Refresh, Commit}
+use Rattle.iot_wire.specs.declared.requests.Request.TheVariants.{Refresh, Commit, Walk}
 use Rattle.iot_wire.specs.declared.lent.RequestView.{RequestView}
 use Rattle.iot_wire.specs.declared.lent.RequestView.TheVariants as lent
 
@@ -21,6 +21,7 @@ pub record IsCommitAt (bytes : List ℕ) (at : ℕ) (commit : Submission) : Type
 abbrev pub request_seen : RequestView → Request
 request_seen (lent.Refresh client known want) = Refresh client known want
 request_seen (lent.Commit commit) = request_of commit
+request_seen (lent.Walk client profile limit) = Walk client profile limit
 
 -- what is lent out of the whole input, seen as a value, is what was decoded; a fault is the first one
 abbrev pub IsLentWhole : {V X : Type 0} → (V → X) → Result V Malformed → Result X ℕ → Type 0

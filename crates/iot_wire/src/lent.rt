@@ -2,7 +2,7 @@
 ghost use Rattle.std.specs.Prelude.{IfOk};
 ghost use Rattle.iot_codec.specs.Outcomes.{IsSeen};
 ghost use Rattle.iot_tree.specs.Rows.{Rising};
-ghost use Rattle.iot_wire.specs.Decoding.{request_at, refresh_at};
+ghost use Rattle.iot_wire.specs.Decoding.{request_at, refresh_at, walk_at};
 ghost use Rattle.iot_wire.specs.Lent.{request_seen};
 ghost use Rattle.iot_wire.specs.Messages.{IsMessage, LendsMessage, IsOneMessage, whole};
 ghost use Rattle.iot_wire.specs.Rules.{IsRequest};
@@ -12,9 +12,9 @@ use crate::CommitView;
 use crate::commits::commit_after;
 use crate::messages::{malformed, read_at_most, tag_of};
 use crate::requests::LAST_CLIENT;
-use iot_codec::{CodecFault, read_known_beside, read_want};
+use iot_codec::{CodecFault, read_known_beside, read_profile, read_walk_limit, read_want};
 use iot_text::Path;
-use iot_tree::{Known, Node, Want};
+use iot_tree::{Known, Node, Profile, Want};
 use std::alloc::Global;
 
 /// What a client asks of the server, of which a commit is lent out of the bytes.
@@ -28,6 +28,12 @@ pub enum RequestView<'a> {
     },
     /// As [`Request::Commit`](crate::Request::Commit).
     Commit(CommitView<'a>),
+    /// As [`Request::Walk`](crate::Request::Walk).
+    Walk {
+        client: u64,
+        profile: Profile,
+        limit: u64,
+    },
 }
 
 /// Reads what follows the tag of a refresh, beside the rows, which rise.
@@ -52,6 +58,26 @@ fn lend_refresh<'a>(
     Ok((request, end))
 }
 
+/// Reads what follows the tag of a walk.
+#[tactic(auto, unfolding(crate::specs::Decoding::walk_at))]
+fn lend_walk<'a>(
+    alloc: Global,
+    bytes: &'a [u8],
+    at: usize,
+) -> Result<(RequestView<'a>, usize), CodecFault>
+    ensures { IsSeen (λ read. (request_seen read.0, read.1)) result (walk_at bytes.now at) }
+{
+    let (client, at) = read_at_most(alloc, LAST_CLIENT, bytes, at)?;
+    let (profile, at) = read_profile(alloc, bytes, at)?;
+    let (limit, end) = read_walk_limit(bytes, at)?;
+    let request = RequestView::Walk {
+        client,
+        profile,
+        limit,
+    };
+    Ok((request, end))
+}
+
 /// Reads a request beside the rows, which rise, or lends a commit, and gives the offset after it.
 #[tactic(auto, unfolding(crate::specs::Decoding::request_at))]
 fn lend_tagged<'a>(
@@ -68,6 +94,7 @@ fn lend_tagged<'a>(
             let (commit, end) = commit_after(bytes, 1)?;
             Ok((RequestView::Commit(commit), end))
         }
+        Some(3) => lend_walk(alloc, bytes, 1),
         _ => Err(malformed(0)),
     }
 }

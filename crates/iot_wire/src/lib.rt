@@ -15,4 +15,4 @@ pub use commits::CommitView;
 pub use effects::Effects;
 pub use lent::{RequestView, lend_request};
 pub use replies::{Reply, read_reply, write_reply};
-pub use requests::{Request, put_commit, read_request, write_request};
+pub use requests::{Request, put_commit, put_walk, read_request, write_request};

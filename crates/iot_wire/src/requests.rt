@@ -1,27 +1,29 @@
 //! What a client asks of the server.
-ghost use Rattle.std.specs.Prelude.{◌≡◌, ◌++◌, IfOk, Ok, OnOk, [], ◌∷◌};
+ghost use Rattle.std.specs.Prelude.{◌≡◌, ◌≤◌, ◌++◌, IfOk, Ok, OnOk, [], ◌∷◌};
 ghost use Rattle.iot_codec.specs.Outcomes.{IsOutcome};
+ghost use Rattle.iot_tree.specs.Profiles.{IsProfile, IsWalkLimit};
 ghost use Rattle.iot_views.specs.Rules.{AreLines, IsAccess, IsLabel};
-ghost use Rattle.iot_wire.specs.Decoding.{request_at, refresh_at, commit_at};
+ghost use Rattle.iot_wire.specs.Decoding.{request_at, refresh_at, commit_at, walk_at};
 ghost use Rattle.iot_wire.specs.Messages.{IsMessage, ReadsMessage, IsOneMessage, whole};
 ghost use Rattle.iot_wire.specs.Rules.{IsRequest};
 ghost use Rattle.iot_wire.specs.Spelling.{request_spelling};
-ghost use Rattle.iot_wire.specs.declared.requests.Request.TheVariants.{Commit};
+ghost use Rattle.iot_wire.specs.declared.requests.Request.TheVariants.{Commit, Walk};
 
 use crate::messages::{ROOM, finished, malformed, read_at_most, tag_of};
 use iot_codec::{
-    CodecFault, put_access, put_known, put_label, put_lines, put_number, put_want, read_access,
-    read_known, read_label, read_lines, read_want,
+    CodecFault, put_access, put_known, put_label, put_lines, put_number, put_profile,
+    put_walk_limit, put_want, read_access, read_known, read_label, read_lines, read_profile,
+    read_walk_limit, read_want,
 };
 use iot_text::{NoMemory, Text};
-use iot_tree::{Access, Known, Label, Lines, Want};
+use iot_tree::{Access, Known, Label, Lines, Profile, Want};
 use std::alloc::Global;
 
 /// The greatest number of a client.
 pub(crate) const LAST_CLIENT: u64 = 7;
 
-/// How many bytes each known path has room for at first, which are enough for most of them.
-const ROOM_FOR_KNOWN: usize = 64;
+/// How many bytes each known path and each wish has room for at first, which are enough for most of them.
+const ROOM_FOR_PATH: usize = 64;
 
 /// What a client asks of the server.
 #[derive(Drop)]
@@ -38,6 +40,12 @@ pub enum Request {
         label: Label,
         access: Access,
         lines: Lines,
+    },
+    /// What the profile takes along within the limit.
+    Walk {
+        client: u64,
+        profile: Profile,
+        limit: u64,
     },
 }
 
@@ -63,6 +71,11 @@ fn put_request(request: &Request, out: &mut Text) -> Result<(), NoMemory>
             access,
             lines,
         } => put_commit(label, access, lines, out),
+        Request::Walk {
+            client,
+            profile,
+            limit,
+        } => put_walk(*client, profile, *limit, out),
     }
 }
 
@@ -85,17 +98,28 @@ pub fn put_commit(
     put_lines(lines, out)
 }
 
+/// Appends the spelling of the request of one of 8 clients for what the profile takes along within the limit.
+#[tactic(auto, unfolding(crate::specs::Spelling::request_spelling))]
+pub fn put_walk(client: u64, profile: &Profile, limit: u64, out: &mut Text) -> Result<(), NoMemory>
+    requires client { client ≤ 7 }
+    requires profile { IsProfile profile.now }
+    requires limit { IsWalkLimit limit }
+    ensures { OnOk result (out.new ≡ out.old ++ request_spelling (Walk client profile.now limit)) }
+{
+    out.push(3)?;
+    put_number(&client, out)?;
+    put_profile(profile, out)?;
+    put_walk_limit(&limit, out)
+}
+
 /// How many bytes the request has room for at first.
 fn room_for(request: &Request) -> usize {
-    match request {
-        Request::Refresh { known, .. } => {
-            known
-                .len()
-                .saturating_mul(ROOM_FOR_KNOWN)
-                .saturating_add(ROOM)
-        }
-        Request::Commit { .. } => ROOM,
-    }
+    let paths = match request {
+        Request::Refresh { known, .. } => known.len(),
+        Request::Commit { .. } => 0,
+        Request::Walk { profile, .. } => profile.len(),
+    };
+    paths.saturating_mul(ROOM_FOR_PATH).saturating_add(ROOM)
 }
 
 /// The bytes of the request: its tag, and then its parts. What is written is read back.
@@ -141,6 +165,22 @@ fn read_commit(alloc: Global, bytes: &[u8], at: usize) -> Result<(Request, usize
     Ok((request, end))
 }
 
+/// Reads what follows the tag of a walk.
+#[tactic(auto, unfolding(crate::specs::Decoding::walk_at))]
+fn read_walk(alloc: Global, bytes: &[u8], at: usize) -> Result<(Request, usize), CodecFault>
+    ensures { IsOutcome result (walk_at bytes.now at) }
+{
+    let (client, at) = read_at_most(alloc, LAST_CLIENT, bytes, at)?;
+    let (profile, at) = read_profile(alloc, bytes, at)?;
+    let (limit, end) = read_walk_limit(bytes, at)?;
+    let request = Request::Walk {
+        client,
+        profile,
+        limit,
+    };
+    Ok((request, end))
+}
+
 /// Reads a request, and gives the offset after it.
 #[tactic(auto, unfolding(crate::specs::Decoding::request_at))]
 fn read_tagged(alloc: Global, bytes: &[u8]) -> Result<(Request, usize), CodecFault>
@@ -149,6 +189,7 @@ fn read_tagged(alloc: Global, bytes: &[u8]) -> Result<(Request, usize), CodecFau
     match tag_of(bytes) {
         Some(1) => read_refresh(alloc, bytes, 1),
         Some(2) => read_commit(alloc, bytes, 1),
+        Some(3) => read_walk(alloc, bytes, 1),
         _ => Err(malformed(0)),
     }
 }

@@ -1,13 +1,15 @@
 -- Numbers, and bytes after their number.
-use Rattle.std.proofs.Common.{◌≡◌, ℕ, ◌+◌, ◌<◌, ◌≤◌, ◌^◌, Bool, true, List, length, take, drop, Ok, refl, sym, subst, arith, inl, inr}
+use Rattle.std.proofs.Common.{◌≡◌, ℕ, ◌+◌, ◌<◌, ◌≤◌, ◌^◌, Bool, true, ◌&&◌, List, length, take, drop, Ok, refl, sym, subst, arith, inl, inr}
 use Rattle.std.proofs.Common.{length-append}
+use Rattle.std.specs.Cmp.{first_so, second_so}
+use Rattle.std.specs.Cmp.Derive.{both_true}
 use Rattle.std.specs.Prelude.{nat_le}
 use Rattle.std.specs.Int.{w64, from_be_bytes, to_be_bytes}
 use Rattle.std.proofs.lemmas.Bool.{cases_lt, leb-true, le-leb}
 use Rattle.std.proofs.lemmas.List.{length-take, get_or-drop, get_or-take, get_or_past}
 use Rattle.std.proofs.lemmas.Nat.{be_bytes_8, from_be_bytes-to_be_bytes_8}
 use Rattle.iot_codec.specs.Places.{LiesAt, IsSpelledAt, AreBytes, IsSpelling}
-use Rattle.iot_views.specs.Decoders.{Decoder, ◌>>=◌, tested, bytes_at, number_at, at_most}
+use Rattle.iot_views.specs.Decoders.{Decoder, ◌>>=◌, tested, bytes_at, number_at, at_most, from_to}
 use Rattle.iot_views.specs.Rules.{IsNumber}
 use Rattle.iot_codec.specs.Spelling.{number_spelling, counted}
 use Rattle.iot_codec.specs.Laws.Places.{lies_then, lies_first, lies_second, lies_short}
@@ -64,6 +66,29 @@ at_most_laws limit small = record {
   only = λ bytes at read short p.
       let stands : IsSpelledAt IsNumber number_spelling bytes at read = record { value = omega (arith, p.value); place = p.place } in
       tested_again (λ n. nat_le n limit) number_at bytes at read (number_again bytes at read stands) (le-leb read.0 limit p.value);
+  some = λ n. omega (arith, length-number n);
+}
+
+-- a number from the least to the greatest
+within_limits : (least greatest n : ℕ) → least ≤ n → n ≤ greatest → nat_le least n && nat_le n greatest ≡ true
+within_limits least greatest n low high = both_true (le-leb least n low) (le-leb n greatest high)
+
+pub from_to_laws : (least greatest : ℕ) → greatest < 2 ^ 64
+    → IsSpelling (λ n. (least ≤ n) × (n ≤ greatest)) number_spelling (from_to least greatest)
+from_to_laws least greatest small = record {
+  found = λ bytes at read fit e.
+      let t = step_tested (λ n. nat_le least n && nat_le n greatest) number_at bytes at read e in
+      record {
+        value = (
+          leb-true least read.0 (first_so (nat_le least read.0) _ t.1),
+          leb-true read.0 greatest (second_so (nat_le least read.0) _ t.1),
+        );
+        place = (number_found bytes at read fit t.0).place;
+      };
+  only = λ bytes at read short p.
+      let stands : IsSpelledAt IsNumber number_spelling bytes at read = record { value = omega (arith, p.value.1); place = p.place } in
+      tested_again (λ n. nat_le least n && nat_le n greatest) number_at bytes at read (number_again bytes at read stands)
+      (within_limits least greatest read.0 p.value.0 p.value.1);
   some = λ n. omega (arith, length-number n);
 }
 
