@@ -1,10 +1,10 @@
 -- The outcome of a merge.
 use Rattle.iot_stamp.proofs.StampsLaws.{nodes_with}
 use Rattle.iot_tree.proofs.PruneLaws.{pruned_tree}
-use Rattle.std.proofs.Common.{is_some, not, ◌||◌, ◌≡◌, ℕ, Bool, true, false, cond, IsTrue, List, [], ◌∷◌, map, Option, Some, None}
+use Rattle.std.proofs.Common.{not, ◌||◌, ◌≡◌, ℕ, Bool, true, false, cond, IsTrue, List, [], ◌∷◌, map, Option, Some, None}
 use Rattle.std.proofs.Common.{option_map}
 use Rattle.std.proofs.Common.{refl, sym, ap, subst, ◌∙◌}
-use Rattle.std.specs.FinMap.{get, same_map, entries, entries_sorted, from_sorted, is_sorted, get-entries, entries-from_sorted}
+use Rattle.std.specs.FinMap.{get, same_map, entries, entries_sorted, from_sorted, is_sorted, entries-from_sorted}
 use Rattle.std.specs.FinMap.{same_entries_map}
 use Rattle.std.proofs.lemmas.List.{length-map}
 use Rattle.iot_text.specs.Paths.{path_cmp, parent_of}
@@ -16,9 +16,9 @@ use Rattle.iot_stamp.proofs.MappedLaws.{entries_of_mapped, get_mapped, sorted_ma
 use Rattle.iot_stamp.specs.Mapped.{mapped, mapped_entries}
 use Rattle.iot_stamp.specs.Stamps.{Entry, Stamps, nodes_of, FarZero, pruned, stamp_at}
 use Rattle.iot_tree.proofs.RowLaws.{tested, is_tested}
-use Rattle.iot_tree.specs.Snapshots.{is_known, wants, prune}
-use Rattle.iot_stamp.specs.Agreement.{IsRefresh, Knows}
-use Rattle.iot_stamp.proofs.FoundLaws.{sent_some}
+use Rattle.iot_tree.specs.Snapshots.{is_known, prune}
+use Rattle.iot_stamp.specs.Agreement.{IsCutTo, IsRefresh}
+use Rattle.iot_stamp.proofs.CutsLaws.{refresh_cut}
 use Rattle.iot_tree.specs.declared.want.Want.{Want}
 use Rattle.iot_stamp.proofs.RefreshLaws.{merge_is_pruned}
 use Rattle.iot_stamp.specs.Refresh.{known_with_stamps, asked, zeroed, joined, merged, has_row, stays}
@@ -121,25 +121,28 @@ pub merged_nothing : (t : Stamps) → FarZero t → merged t [] [] ≡ t
 merged_nothing t far =
     ap (mapped zeroed) (same_entries_map _ _ (sym (joined_woven t [] [] cc) ∙ woven_alone (entries t))) ∙ zeroed_stays t far
 
--- the paths that the held tree knows are among those that are asked for
-knows_sent : (held s : Stamps) (want : Want) → Knows held (asked s (known_with_stamps held) want)
-knows_sent held s want = record {
-  all = λ p a n here known.
-      ap (λ (o : Option ℕ). is_some o || wants (nodes_of s) want p)
-      (sent_some p a n (entries held) (sym (get-entries held p) ∙ here) known);
-}
+-- ---- the merge of what cuts a tree down
 
--- the merge of a refresh is the pruned tree
+module _ (held s : Stamps) (k : Path → Bool) (rows : List Entry) (gone : List Path) (tree : IsTree (nodes_of held)) (far : FarZero held)
+    (is : IsCutTo held s k rows gone) where
+  -- it is the pruned tree
+  pub cut_is : merged held rows gone ≡ pruned s k
+  cut_is =
+      (λ i. merged held (is.rows_are i) (is.gone_are i)) ∙ merge_is_pruned held s k tree far is.tree is.whole is.knows is.agrees
+
+  -- which is a tree
+  pub cut_tree : IsTree (nodes_of (merged held rows gone))
+  cut_tree =
+      subst (λ (t : Stamps). IsTree (nodes_of t)) (sym cut_is)
+      (subst IsTree (sym (nodes_with (stamp_at s) (prune (nodes_of s) k))) (pruned_tree (nodes_of s) k is.tree))
+
+-- the same of a refresh
 pub refresh_is : (held s : Stamps) (want : Want) (rows : List Entry) (gone : List Path) → IsTree (nodes_of held) → FarZero held
     → IsRefresh held s want rows gone → merged held rows gone ≡ pruned s (asked s (known_with_stamps held) want)
 refresh_is held s want rows gone tree far is =
-    (λ i. merged held (is.rows_are i) (is.gone_are i))
-    ∙ merge_is_pruned held s (asked s (known_with_stamps held) want) tree far is.tree is.whole (knows_sent held s want) is.agrees
+    cut_is held s (asked s (known_with_stamps held) want) rows gone tree far (refresh_cut held s want rows gone is)
 
--- which is a tree
 pub refresh_tree : (held s : Stamps) (want : Want) (rows : List Entry) (gone : List Path) → IsTree (nodes_of held) → FarZero held
     → IsRefresh held s want rows gone → IsTree (nodes_of (merged held rows gone))
 refresh_tree held s want rows gone tree far is =
-    let k = asked s (known_with_stamps held) want in
-    subst (λ (t : Stamps). IsTree (nodes_of t)) (sym (refresh_is held s want rows gone tree far is))
-    (subst IsTree (sym (nodes_with (stamp_at s) (prune (nodes_of s) k))) (pruned_tree (nodes_of s) k is.tree))
+    cut_tree held s (asked s (known_with_stamps held) want) rows gone tree far (refresh_cut held s want rows gone is)

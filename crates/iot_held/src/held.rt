@@ -1,15 +1,14 @@
 //! The held tree.
 ghost use Rattle.std.specs.List.{AllByRecursion};
-ghost use Rattle.std.specs.Prelude.{◌≡◌, ◌≢◌, [], IsTrue, IfOk, IfErr, OnOk, OnErr};
+ghost use Rattle.std.specs.Prelude.{◌≡◌, ◌≢◌, [], Bool, IsTrue, IfOk, IfErr, OnOk, OnErr};
 ghost use Rattle.std.specs.FinMap.{is_sorted};
 ghost use Rattle.iot_text.specs.Paths.{path_cmp};
 ghost use Rattle.iot_tree.specs.Snapshots.{ArePathsRising};
-ghost use Rattle.iot_tree.specs.Tree.{IsTree, root_alone};
-ghost use Rattle.iot_tree.specs.declared.want.Want.{Want};
+ghost use Rattle.iot_tree.specs.Tree.{IsTree, Path, root_alone};
 ghost use Rattle.iot_stamp.specs.Acting.{UpdatesFit, stamped_acts};
-ghost use Rattle.iot_stamp.specs.Agreement.{Agrees, IsPositive, IsRefresh};
-ghost use Rattle.iot_stamp.specs.Refresh.{IsStampedPath, asked, known_with_stamps, merged};
-ghost use Rattle.iot_stamp.specs.Stamps.{Stamps, nodes_of, unstamped, pruned, FarZero};
+ghost use Rattle.iot_stamp.specs.Agreement.{Agrees, IsCutTo, IsPositive};
+ghost use Rattle.iot_stamp.specs.Refresh.{IsStampedPath, known_with_stamps, merged};
+ghost use Rattle.iot_stamp.specs.Stamps.{Stamps, nodes_of, nothing_held, unstamped, pruned, FarZero};
 
 use crate::merging::{MergeFault, merge_changes};
 use iot_stamp::Stamped;
@@ -39,7 +38,7 @@ impl Model for Held {
 impl Held {
     /// Nothing is known yet: a root whose names are not known.
     pub fn new(alloc: Global) -> Result<Held, NoMemory>
-        ensures value { IfOk result (λ held. held ≡ unstamped (root_alone Node.FarDir)) }
+        ensures value { IfOk result (λ held. held ≡ nothing_held) }
         ensures nodes { IfOk result (λ held. nodes_of held ≡ root_alone Node.FarDir) }
     {
         Held::unstamped(alloc, Tree::far_root(alloc)?)
@@ -76,9 +75,9 @@ impl Held {
     }
 
     /// Drops the rows at or below the paths that are gone and the far children of each path among the new rows, and sets the
-    /// new rows; a far row gets stamp 0. After the changes of a whole tree with which this one agrees it is exactly that tree,
-    /// cut down to what is known and wanted, and agrees with it. Nothing new costs nothing; else one pass over both lists of
-    /// rows. After an error the tree is as it was.
+    /// new rows; a far row gets stamp 0. After the changes of a whole tree with which this one agrees, cut down to paths that
+    /// include all that this one knows, it is exactly that tree, cut down to them, and agrees with it. Nothing new costs nothing;
+    /// else one pass over both lists of rows. After an error the tree is as it was.
     ///
     /// # Errors
     ///
@@ -87,11 +86,11 @@ impl Held {
         requires rows { IsTrue (is_sorted path_cmp changes.rows) }
         requires gone { ArePathsRising changes.gone }
         ensures ok { OnOk result (self.new ≡ merged self.old changes.rows changes.gone) }
-        ensures refreshed { (s : Stamps) (want : Want) → IsRefresh self.old s want changes.rows changes.gone
-            → OnOk result (self.new ≡ pruned s (asked s (known_with_stamps self.old) want)) }
-        ensures agrees { (s : Stamps) (want : Want) → IsRefresh self.old s want changes.rows changes.gone
+        ensures refreshed { (s : Stamps) (k : Path → Bool) → IsCutTo self.old s k changes.rows changes.gone
+            → OnOk result (self.new ≡ pruned s k) }
+        ensures agrees { (s : Stamps) (k : Path → Bool) → IsCutTo self.old s k changes.rows changes.gone
             → IsPositive s → OnOk result (Agrees self.new s) }
-        ensures only_memory { (s : Stamps) (want : Want) → IsRefresh self.old s want changes.rows changes.gone
+        ensures only_memory { (s : Stamps) (k : Path → Bool) → IsCutTo self.old s k changes.rows changes.gone
             → IfErr result (λ fault. fault ≡ MergeFault.NoMemory) }
         ensures tree { OnOk result (IsTree (nodes_of self.new)) }
         ensures nothing { changes.rows ≡ [] → changes.gone ≡ [] → self.new ≡ self.old }

@@ -1,5 +1,6 @@
 -- What a server answers that changed.
-use Rattle.std.proofs.Common.{◌≡◌, ℕ, Bool, cond, IsTrue, List, [], ◌∷◌, map, Some, None, is_some, true, false, length, refl, sym, ap, ◌∙◌}
+use Rattle.std.proofs.Common.{◌≡◌, ℕ, Bool, ◌||◌, cond, IsTrue, List, [], ◌∷◌, map, Some, None, is_some, true, false, length, refl, sym}
+use Rattle.std.proofs.Common.{ap, subst, ◌∙◌, Result, Ok, Err, IfOk}
 use Rattle.std.proofs.lemmas.List.{length-map}
 use Rattle.std.specs.List.{filter_map, cons_option}
 use Rattle.std.specs.Ordering.{is_lt}
@@ -10,13 +11,14 @@ use Rattle.iot_text.specs.Paths.{path_cmp}
 use Rattle.iot_prune.proofs.WalkLaws.{Before}
 use Rattle.iot_tree.specs.Snapshots.{ArePathsRising}
 use Rattle.iot_tree.specs.Tree.{Row, Path}
+use Rattle.iot_tree.specs.declared.changes.Changes.{Changes}
 use Rattle.iot_tree.specs.declared.nodes.Node.{Node}
 use Rattle.iot_tree.specs.declared.want.Want.{Want}
 use Rattle.iot_tree.proofs.PlaceLaws.{is_less}
 use Rattle.iot_tree.proofs.RowLaws.{is_tested}
 use Rattle.iot_stamp.specs.Pairing.{paired, stamps_of}
-use Rattle.iot_stamp.specs.Passes.{sending}
-use Rattle.iot_stamp.specs.Refresh.{asked, is_new, gone_path, gone_paths, changed_rows}
+use Rattle.iot_stamp.specs.Passes.{kept, sending}
+use Rattle.iot_stamp.specs.Refresh.{asked, changes_on, is_new, gone_path, gone_paths, changed_rows}
 use Rattle.iot_stamp.specs.Stamps.{Entry, Stamps, nodes_of, pruned}
 use Rattle.iot_stamp.proofs.MappedLaws.{entries_of_mapped}
 use Rattle.iot_stamp.proofs.SendingLaws.{sent_rows}
@@ -51,17 +53,36 @@ module _ (m : Stamps) (rows : List Row) (stamps : List ℕ) (rows_by : rows ≡ 
   whole_is : stamps_of rows stamps ≡ m
   whole_is = ap from_sorted paired_is ∙ map_back m
 
-  pub rows_answer : (sent : List (Path × ℕ)) (want : Want) (out : List Entry)
-      → out ≡ filter_map (sending (stamps_of rows stamps) sent (asked (stamps_of rows stamps) sent want)) rows
-      → out ≡ changed_rows m sent (asked m sent want)
-  rows_answer sent want out out_by =
-      out_by ∙ (λ i. filter_map (sending (whole_is i) sent (asked (whole_is i) sent want)) (rows_by i))
-      ∙ sent_rows m sent (asked m sent want)
+  module _ (sent : List (Path × ℕ)) (want : Want) (listed : List Path) where
+    rows_answer : (out : List Entry)
+        → out ≡ filter_map (sending (stamps_of rows stamps) sent (kept (stamps_of rows stamps) sent want listed)) rows
+        → out ≡ changed_rows m sent (kept m sent want listed)
+    rows_answer out out_by =
+        out_by ∙ (λ i. filter_map (sending (whole_is i) sent (kept (whole_is i) sent want listed)) (rows_by i))
+        ∙ sent_rows m sent (kept m sent want listed)
 
-  pub gone_answer : (sent : List (Path × ℕ)) (want : Want) (gone : List Path)
-      → gone ≡ gone_paths (stamps_of rows stamps) sent (asked (stamps_of rows stamps) sent want)
-      → gone ≡ gone_paths m sent (asked m sent want)
-  gone_answer sent want gone gone_by = gone_by ∙ (λ i. gone_paths (whole_is i) sent (asked (whole_is i) sent want))
+    gone_answer : (gone : List Path) → gone ≡ gone_paths (stamps_of rows stamps) sent (kept (stamps_of rows stamps) sent want listed)
+        → gone ≡ gone_paths m sent (kept m sent want listed)
+    gone_answer gone gone_by = gone_by ∙ (λ i. gone_paths (whole_is i) sent (kept (whole_is i) sent want listed))
+
+    -- what is answered, whichever way the paths are said that it is cut down to
+    pub answer_is : {E : Type 0} (k : Path → Bool) → kept m sent want listed ≡ k → (r : Result Changes E)
+        → IfOk r (λ changes. changes.rows
+        ≡ filter_map (sending (stamps_of rows stamps) sent (kept (stamps_of rows stamps) sent want listed)) rows)
+        → IfOk r (λ changes. changes.gone ≡ gone_paths (stamps_of rows stamps) sent (kept (stamps_of rows stamps) sent want listed))
+        → IfOk r (λ changes. changes ≡ changes_on m sent k)
+    answer_is k same (Ok changes) rows_are gone_are =
+        (λ i. record { rows = rows_answer changes.rows rows_are i; gone = gone_answer changes.gone gone_are i })
+        ∙ ap (changes_on m sent) same
+    answer_is k same (Err e) rows_are gone_are = rows_are
+
+-- nothing is listed
+pub none_listed : (m : Stamps) (sent : List (Path × ℕ)) (want : Want) → kept m sent want [] ≡ asked m sent want
+none_listed m sent want = λ i q. or_nothing (asked m sent want q) i
+  where
+    or_nothing : (b : Bool) → (b || false) ≡ b
+    or_nothing true = refl
+    or_nothing false = refl
 
 -- ---- the order of what is sent
 
@@ -86,3 +107,12 @@ module _ (t : Stamps) where
         | true ↦ rest
         | false ↦ (before_gone e.0 es (first_so (below_all path_cmp e.0 es) _ rising), rest)
       ]
+
+-- what is answered rises
+pub answer_rising : {E : Type 0} (s : Stamps) (sent : List (Path × ℕ)) (k : Path → Bool) → IsTrue (is_sorted path_cmp sent)
+    → (r : Result Changes E) → IfOk r (λ changes. changes ≡ changes_on s sent k)
+    → IfOk r (λ changes. IsTrue (is_sorted path_cmp changes.rows) × ArePathsRising changes.gone)
+answer_rising s sent k rising (Ok changes) is =
+    subst (λ (all : Changes). IsTrue (is_sorted path_cmp all.rows) × ArePathsRising all.gone) (sym is)
+    (changed_rising s sent k, gone_rising (pruned s k) sent rising)
+answer_rising s sent k rising (Err e) is = is

@@ -8,6 +8,7 @@ pub mod StampingLaws
 pub mod StartsLaws
 pub mod RefreshLaws
 pub mod AgreementLaws
+pub mod CutsLaws
 pub mod ActingLaws
 pub mod StackLaws
 pub mod PairingLaws

@@ -24,13 +24,15 @@ use Rattle.iot_tree.proofs.RowLaws.{tested}
 use Rattle.iot_tree.proofs.SnapshotLaws.{all_push}
 use Rattle.iot_tree.proofs.TreeLaws.{apart}
 use Rattle.iot_tree.proofs.WithinLaws.{not_less}
-use Rattle.iot_tree.specs.Snapshots.{is_reached, seen, prune, cut_rows}
+use Rattle.iot_prune.proofs.WalkLaws.{has_from, rising_from, begins_from}
+use Rattle.iot_prune.specs.Walks.{begins, from}
+use Rattle.iot_tree.specs.Snapshots.{ArePathsRising, has, is_reached, seen, prune, cut_rows}
 use Rattle.iot_tree.specs.Tree.{Row, Path}
 use Rattle.iot_tree.specs.declared.want.Want.{Want}
 use Rattle.std.specs.Cmp.{second_so}
-use Rattle.iot_stamp.specs.Refresh.{is_stamp, is_sent, is_parent_new, is_new, asked, changed_rows, gone_path, gone_paths}
+use Rattle.iot_stamp.specs.Refresh.{is_stamp, is_sent, is_parent_new, is_new, changed_rows, gone_path, gone_paths}
 use Rattle.iot_stamp.specs.Pairing.{paired, stamps_of}
-use Rattle.iot_stamp.specs.Passes.{before_key, from_key, after_head, sending, flags, above_of, wanted, head_at}
+use Rattle.iot_stamp.specs.Passes.{before_key, from_key, after_head, kept as kept_of, sending, flags, above_of, wanted, head_at}
 use Rattle.iot_stamp.proofs.FoundLaws.{found_here}
 use Rattle.iot_stamp.proofs.GoneLaws.{Ahead, ahead_none, ahead_more, gone_before, gone_at, gone_rest}
 use Rattle.iot_stamp.proofs.StampsLaws.{node_some}
@@ -108,26 +110,33 @@ module _ (s : Stamps) (sent : List (Path × ℕ)) (k : Path → Bool) where
   sent_if c row is = ap (λ b. cond b (Some (row.0, stamped_node (seen (k row.0) row.1) (stamp_at s row.0))) None) is
 
 -- how far the pass has come
-pub record SoFar (rows : List Row) (stamps : List ℕ) (sent : List (Path × ℕ)) (want : Want) (rest : List (Path × ℕ))
-    (stack : List (Bool × Bool)) (out : List Entry) (gone : List Path) (i : ℕ) : Type 0 where
-  pub out_is : out ≡ filter_map (sending (stamps_of rows stamps) sent (asked (stamps_of rows stamps) sent want)) (take i rows)
-  pub stacked : Stacked (flags (stamps_of rows stamps) sent (asked (stamps_of rows stamps) sent want)) rows i stack
+pub record SoFar (rows : List Row) (stamps : List ℕ) (sent : List (Path × ℕ)) (want : Want) (listed : List Path)
+    (rest : List (Path × ℕ)) (left : List Path) (stack : List (Bool × Bool)) (out : List Entry) (gone : List Path) (i : ℕ) : Type 0 where
+  pub out_is : out ≡ filter_map (sending (stamps_of rows stamps) sent (kept_of (stamps_of rows stamps) sent want listed)) (take i rows)
+  pub stacked : Stacked (flags (stamps_of rows stamps) sent (kept_of (stamps_of rows stamps) sent want listed)) rows i stack
   pub rising : IsTrue (is_sorted path_cmp rest)
   pub finds : (q : Path) → AllBefore q (take i rows) → find path_cmp q rest ≡ find path_cmp q sent
   pub ahead : Ahead (take i rows) rest
-  pub gone_is : gone ++ filter_map (gone_path (pruned (stamps_of rows stamps) (asked (stamps_of rows stamps) sent want))) rest
-      ≡ gone_paths (stamps_of rows stamps) sent (asked (stamps_of rows stamps) sent want)
+  pub gone_is : gone ++ filter_map (gone_path (pruned (stamps_of rows stamps) (kept_of (stamps_of rows stamps) sent want listed))) rest
+      ≡ gone_paths (stamps_of rows stamps) sent (kept_of (stamps_of rows stamps) sent want listed)
+  pub left_rising : ArePathsRising left
+  pub lists : (q : Path) → AllBefore q (take i rows) → has left q ≡ has listed q
 
-pub so_far_none : (rows : List Row) (stamps : List ℕ) (sent : List (Path × ℕ)) (want : Want) (stack : List (Bool × Bool)) (out : List Entry)
-    (gone : List Path) → out ≡ [] → gone ≡ [] → stack ≡ [] → IsTrue (is_sorted path_cmp sent)
-    → SoFar rows stamps sent want sent stack out gone 0
-so_far_none rows stamps sent want stack out gone none nothing empty rising = record {
+pub so_far_none : (rows : List Row) (stamps : List ℕ) (sent : List (Path × ℕ)) (want : Want) (listed : List Path)
+    (stack : List (Bool × Bool)) (out : List Entry) (gone : List Path) → out ≡ [] → gone ≡ [] → stack ≡ []
+    → IsTrue (is_sorted path_cmp sent) → ArePathsRising listed
+    → SoFar rows stamps sent want listed sent listed stack out gone 0
+so_far_none rows stamps sent want listed stack out gone none nothing empty rising listed_rising = record {
   out_is = none;
   stacked = stacked_none _ rows stack empty;
   rising = rising;
   finds = λ q before. refl;
   ahead = ahead_none sent;
-  gone_is = ap (λ (paths : List Path). paths ++ gone_paths (stamps_of rows stamps) sent (asked (stamps_of rows stamps) sent want)) nothing;
+  gone_is =
+      ap (λ (paths : List Path). paths ++ gone_paths (stamps_of rows stamps) sent (kept_of (stamps_of rows stamps) sent want listed))
+      nothing;
+  left_rising = listed_rising;
+  lists = λ q before. refl;
 }
 
 pub before_left : (q : Path) (a : List Row) (row : Row) → AllBefore q (a ++ row ∷ []) → AllBefore q a
@@ -138,24 +147,24 @@ pub before_at : (q : Path) (a : List Row) (row : Row) → AllBefore q (a ++ row 
 before_at q [] row before = before.0
 before_at q (x ∷ a) row before = before_at q a row before.1
 
-module _ (rows : List Row) (stamps : List ℕ) (sent : List (Path × ℕ)) (want : Want) (rest : List (Path × ℕ)) (stack : List (Bool × Bool))
-    (out : List Entry) (gone : List Path) (i : ℕ) (row : Row)
+module _ (rows : List Row) (stamps : List ℕ) (sent : List (Path × ℕ)) (want : Want) (listed : List Path) (rest : List (Path × ℕ))
+    (left : List Path) (stack : List (Bool × Bool)) (out : List Entry) (gone : List Path) (i : ℕ) (row : Row)
     (all : AreTreeRows rows) (lt : i < length rows) (is : row ≡ get_or rows i row)
-    (so_far : SoFar rows stamps sent want rest stack out gone i)
-    (cut new_stack : List (Bool × Bool)) (above : Bool × Bool) (left after : List (Path × ℕ)) (known : Option ℕ) (kept fresh sends : Bool)
-    (stamp : ℕ) (passed hidden : List Path)
+    (so_far : SoFar rows stamps sent want listed rest left stack out gone i)
+    (cut new_stack : List (Bool × Bool)) (above : Bool × Bool) (ahead after : List (Path × ℕ)) (later : List Path) (known : Option ℕ)
+    (kept fresh sends : Bool) (stamp : ℕ) (passed hidden : List Path)
     (cut_by : cut ≡ take (length row.0) stack) (above_by : above ≡ above_of (slice_get cut (length cut - 1)))
-    (left_by : left ≡ from_key row.0 rest) (passed_by : passed ≡ gone ++ map (λ e. e.0) (before_key row.0 rest))
-    (known_by : known ≡ head_at row.0 left) (after_by : after ≡ after_head row.0 left)
+    (ahead_by : ahead ≡ from_key row.0 rest) (passed_by : passed ≡ gone ++ map (λ e. e.0) (before_key row.0 rest))
+    (known_by : known ≡ head_at row.0 ahead) (after_by : after ≡ after_head row.0 ahead) (later_by : later ≡ from row.0 left)
     (hidden_by : hidden ≡ passed ++ cond (is_some known && not above.0) (row.0 ∷ []) [])
-    (kept_by : kept ≡ (is_some known || wanted want row.0)) (fresh_by : fresh ≡ not (is_stamp known stamp))
+    (kept_by : kept ≡ ((is_some known || wanted want row.0) || begins row.0 later)) (fresh_by : fresh ≡ not (is_stamp known stamp))
     (stamp_by : stamp ≡ get_or stamps i 0)
     (stack_by : new_stack ≡ cut ++ (above.0 && kept, fresh) ∷ []) (sends_by : sends ≡ (above.0 && cond kept fresh above.1)) where
   abbrev s : Stamps
   s = stamps_of rows stamps
 
   abbrev k : Path → Bool
-  k = asked s sent want
+  k = kept_of s sent want listed
 
   more : take (i + 1) rows ≡ take i rows ++ row ∷ []
   more = take_more rows i row lt ∙ ap (λ (r : Row). take i rows ++ r ∷ []) (sym is)
@@ -169,7 +178,7 @@ module _ (rows : List Row) (stamps : List ℕ) (sent : List (Path × ℕ)) (want
   early = front_before (take i rows) row (drop (i + 1) rows) (subst (λ (r : List Row). IsTrue (is_sorted path_cmp r)) parts all.rising)
 
   known_is : known ≡ find path_cmp row.0 sent
-  known_is = known_by ∙ ap (head_at row.0) left_by ∙ head_from row.0 rest so_far.rising ∙ so_far.finds row.0 early
+  known_is = known_by ∙ ap (head_at row.0) ahead_by ∙ head_from row.0 rest so_far.rising ∙ so_far.finds row.0 early
 
   stamp_is : stamp ≡ stamp_at s row.0
   stamp_is = stamp_by ∙ sym (stamp_paired rows stamps i row all.rising lt is)
@@ -177,8 +186,11 @@ module _ (rows : List Row) (stamps : List ℕ) (sent : List (Path × ℕ)) (want
   there : is_some (get (nodes_of s) row.0) ≡ true
   there = ap (λ (o : Option Node). is_some o) (node_some s row.0 row.1 _ (row_paired rows stamps i row all.rising lt is))
 
+  listed_is : begins row.0 later ≡ has listed row.0
+  listed_is = ap (begins row.0) later_by ∙ begins_from row.0 left so_far.left_rising ∙ so_far.lists row.0 early
+
   kept_is : kept ≡ k row.0
-  kept_is = kept_by ∙ (λ j. is_some (known_is j) || wanted_is want (nodes_of s) row.0 there j)
+  kept_is = kept_by ∙ (λ j. (is_some (known_is j) || wanted_is want (nodes_of s) row.0 there j) || listed_is j)
 
   fresh_is : fresh ≡ not (is_sent s sent row.0)
   fresh_is = fresh_by ∙ (λ j. not (is_stamp (known_is j) (stamp_is j)))
@@ -196,8 +208,8 @@ module _ (rows : List Row) (stamps : List ℕ) (sent : List (Path × ℕ)) (want
   next_gone : hidden ++ filter_map (gone_path (pruned s k)) after ≡ gone_paths s sent k
   next_gone =
       (λ j. (hidden_by ∙ (λ l. passed_by l ++ cond (is_some ((known_by
-      ∙ ap (head_at row.0) left_by) l) && not (above_list l).0) (row.0 ∷ []) [])) j
-      ++ filter_map (gone_path (pruned s k)) ((after_by ∙ ap (after_head row.0) left_by) j))
+      ∙ ap (head_at row.0) ahead_by) l) && not (above_list l).0) (row.0 ∷ []) [])) j
+      ++ filter_map (gone_path (pruned s k)) ((after_by ∙ ap (after_head row.0) ahead_by) j))
       ∙ append_assoc (gone ++ map (λ e. e.0) (before_key row.0 rest)) _ _
       ∙ ap (λ (paths : List Path). (gone ++ map (λ e. e.0) (before_key row.0 rest)) ++ paths)
       (gone_at rows stamps k all.rising row.0 there (from_key row.0 rest))
@@ -211,7 +223,7 @@ module _ (rows : List Row) (stamps : List ℕ) (sent : List (Path × ℕ)) (want
 
   next_ahead : Ahead (take (i + 1) rows) after
   next_ahead =
-      subst (λ (es : List (Path × ℕ)). Ahead (take (i + 1) rows) es) (sym (after_by ∙ ap (after_head row.0) left_by))
+      subst (λ (es : List (Path × ℕ)). Ahead (take (i + 1) rows) es) (sym (after_by ∙ ap (after_head row.0) ahead_by))
       (subst (λ (front : List Row). Ahead front (after_head row.0 (from_key row.0 rest))) (sym more)
       (ahead_more (take i rows) row early (after_head row.0 (from_key row.0 rest)) (rest_after row.0 rest so_far.rising)))
 
@@ -224,22 +236,31 @@ module _ (rows : List Row) (stamps : List ℕ) (sent : List (Path × ℕ)) (want
   next_finds : (q : Path) → AllBefore q (take (i + 1) rows) → find path_cmp q after ≡ find path_cmp q sent
   next_finds q before =
       let both = subst (AllBefore q) more before in
-      ap (find path_cmp q) (after_by ∙ ap (after_head row.0) left_by)
+      ap (find path_cmp q) (after_by ∙ ap (after_head row.0) ahead_by)
       ∙ find_after_head row.0 q (before_at q (take i rows) row both) (from_key row.0 rest)
       ∙ find_from row.0 q (before_at q (take i rows) row both) rest
       ∙ so_far.finds q (before_left q (take i rows) row both)
 
   next_rising : IsTrue (is_sorted path_cmp after)
   next_rising =
-      subst (λ (es : List (Path × ℕ)). IsTrue (is_sorted path_cmp es)) (sym (after_by ∙ ap (after_head row.0) left_by))
+      subst (λ (es : List (Path × ℕ)). IsTrue (is_sorted path_cmp es)) (sym (after_by ∙ ap (after_head row.0) ahead_by))
       (sorted_after_head row.0 (from_key row.0 rest) (sorted_from row.0 rest so_far.rising))
+
+  next_lists : (q : Path) → AllBefore q (take (i + 1) rows) → has later q ≡ has listed q
+  next_lists q before =
+      let both = subst (AllBefore q) more before in
+      ap (λ (paths : List Path). has paths q) later_by ∙ has_from row.0 q (before_at q (take i rows) row both) left
+      ∙ so_far.lists q (before_left q (take i rows) row both)
+
+  next_left_rising : ArePathsRising later
+  next_left_rising = subst ArePathsRising (sym later_by) (rising_from row.0 left so_far.left_rising)
 
   sends_is : (is_reached k row.0 && is_new s sent k row.0) ≡ sends
   sends_is = sym (sends_by ∙ (λ j. (above_list j).0 && cond (kept_is j) (fresh_is j) (above_list j).1))
 
   -- something is sent of the row
   pub next_sent : (new : List Entry) → sends ≡ true → new ≡ out ++ (row.0, stamped_node (seen kept row.1) stamp) ∷ []
-      → SoFar rows stamps sent want after new_stack new hidden (i + 1)
+      → SoFar rows stamps sent want listed after later new_stack new hidden (i + 1)
   next_sent new yes_sends new_is = record {
     out_is =
         picked_more (sending s sent k) rows i row (row.0, stamped_node (seen (k row.0) row.1) (stamp_at s row.0)) out new lt is
@@ -250,10 +271,12 @@ module _ (rows : List Row) (stamps : List ℕ) (sent : List (Path × ℕ)) (want
     finds = next_finds;
     ahead = next_ahead;
     gone_is = next_gone;
+    left_rising = next_left_rising;
+    lists = next_lists;
   }
 
   -- nothing is
-  pub next_unsent : sends ≡ false → SoFar rows stamps sent want after new_stack out hidden (i + 1)
+  pub next_unsent : sends ≡ false → SoFar rows stamps sent want listed after later new_stack out hidden (i + 1)
   next_unsent no_sends = record {
     out_is = picked_none (sending s sent k) rows i row out lt is (sent_if s sent k false row (sends_is ∙ no_sends)) so_far.out_is;
     stacked = next_stack;
@@ -261,20 +284,22 @@ module _ (rows : List Row) (stamps : List ℕ) (sent : List (Path × ℕ)) (want
     finds = next_finds;
     ahead = next_ahead;
     gone_is = next_gone;
+    left_rising = next_left_rising;
+    lists = next_lists;
   }
 
 -- at the end all that is left is gone
-pub so_far_all : (rows : List Row) (stamps : List ℕ) (sent : List (Path × ℕ)) (want : Want) (rest : List (Path × ℕ))
-    (stack : List (Bool × Bool)) (out : List Entry) (gone new : List Path) (i : ℕ)
-    → Rising rows → length rows ≤ i → i ≤ length rows → SoFar rows stamps sent want rest stack out gone i
+pub so_far_all : (rows : List Row) (stamps : List ℕ) (sent : List (Path × ℕ)) (want : Want) (listed : List Path)
+    (rest : List (Path × ℕ)) (left : List Path) (stack : List (Bool × Bool)) (out : List Entry) (gone new : List Path) (i : ℕ)
+    → Rising rows → length rows ≤ i → i ≤ length rows → SoFar rows stamps sent want listed rest left stack out gone i
     → new ≡ gone ++ map (λ e. e.0) rest
-    → new ≡ gone_paths (stamps_of rows stamps) sent (asked (stamps_of rows stamps) sent want)
-so_far_all rows stamps sent want rest stack out gone new i rising long short so_far new_by =
+    → new ≡ gone_paths (stamps_of rows stamps) sent (kept_of (stamps_of rows stamps) sent want listed)
+so_far_all rows stamps sent want listed rest left stack out gone new i rising long short so_far new_by =
     let end : i ≡ length rows = omega (arith, long, short) in
     new_by
     ∙ ap (λ (paths : List Path). gone ++ paths)
     (sym
-    (gone_rest rows stamps (asked (stamps_of rows stamps) sent want) rising rest
+    (gone_rest rows stamps (kept_of (stamps_of rows stamps) sent want listed) rising rest
     (subst (λ (front : List Row). Ahead front rest) (ap (λ (n : ℕ). take n rows) end ∙ take-length rows) so_far.ahead)))
     ∙ so_far.gone_is
 

@@ -41,6 +41,15 @@ Keeps old new stamp =
 pub record Knows (h : Stamps) (k : Path → Bool) : Type 0 where
   pub all : (p : Path) (a : Node) (n : ℕ) → get h p ≡ Some (a, n) → is_known a ≡ true → k p ≡ true
 
+-- these are the changes of the whole tree s, cut down to k, for what the held tree knows, all of which is among k; and both trees agree
+pub record IsCutTo (held s : Stamps) (k : Path → Bool) (rows : List Entry) (gone : List Path) : Type 0 where
+  pub tree : IsTree (nodes_of s)
+  pub whole : IsWhole (nodes_of s)
+  pub agrees : Agrees held s
+  pub knows : Knows held k
+  pub rows_are : rows ≡ changed_rows s (known_with_stamps held) k
+  pub gone_are : gone ≡ gone_paths s (known_with_stamps held) k
+
 -- these are the changes of the whole tree s for what the held tree knows and what is wanted, and both trees agree
 pub record IsRefresh (held s : Stamps) (want : Want) (rows : List Entry) (gone : List Path) : Type 0 where
   pub tree : IsTree (nodes_of s)

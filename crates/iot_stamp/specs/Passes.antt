@@ -3,18 +3,22 @@ use Rattle.iot_tree.specs.Tree.{Path, Row}
 use Rattle.std.specs.Prelude.{ℕ, Bool, true, false, not, ◌&&◌, ◌||◌, cond, List, [], ◌∷◌, if◌then◌else◌, Option, Some, None}
 use Rattle.std.specs.Prelude.{bytes_eq}
 use Rattle.std.specs.List.{starts_with}
-use Rattle.iot_tree.specs.Snapshots.{is_reached, seen}
+use Rattle.iot_tree.specs.Snapshots.{has, is_reached, seen}
 use Rattle.iot_tree.specs.declared.want.Want.{Want}
 use Rattle.iot_tree.specs.declared.want.Want.TheVariants as wish
 use Rattle.std.specs.Ordering.{is_lt, eq_by_cmp}
 use Rattle.iot_text.specs.Paths.{path_cmp}
 use Rattle.iot_stamp.specs.Stamps.{Entry, Stamps, stamp_at, stamped_node}
-use Rattle.iot_stamp.specs.Refresh.{is_sent, is_new}
+use Rattle.iot_stamp.specs.Refresh.{asked, is_sent, is_new}
 
 -- the entries from the first on that does not come before p
 abbrev pub from_key : {V : Type 0} → Path → List (Path × V) → List (Path × V)
 from_key p [] = []
 from_key p (e ∷ es) = if is_lt (path_cmp e.0 p) then from_key p es else e ∷ es
+
+-- the paths that were sent, those that are wanted, and those that are listed
+abbrev pub kept : Stamps → List (Path × ℕ) → Want → List Path → Path → Bool
+kept s sent want listed q = asked s sent want q || has listed q
 
 -- what is sent of a row: the row if its path is among k and was not sent with its stamp, the far row if its
 -- path is not among k and its parent is sent; nothing of a row that is not reached

@@ -63,9 +63,13 @@ gone_path t e = cond (is_some (get t e.0)) None (Some e.0)
 abbrev pub gone_paths : Stamps → List (Path × ℕ) → (Path → Bool) → List Path
 gone_paths s sent k = filter_map (gone_path (pruned s k)) sent
 
--- what a server answers a client that sent these paths with these stamps, and wants this
+-- what a server answers a client that sent these paths with these stamps, of its tree cut down to k
+abbrev pub changes_on : Stamps → List (Path × ℕ) → (Path → Bool) → Changes
+changes_on s sent k = record { rows = changed_rows s sent k; gone = gone_paths s sent k }
+
+-- what it answers one that wants this besides
 abbrev pub changes_for : Stamps → List (Path × ℕ) → Want → Changes
-changes_for s sent want = record { rows = changed_rows s sent (asked s sent want); gone = gone_paths s sent (asked s sent want) }
+changes_for s sent want = changes_on s sent (asked s sent want)
 
 -- whether the path is at or below one that is gone
 abbrev pub is_gone : List Path → Path → Bool

@@ -2,8 +2,9 @@
 use Rattle.std.specs.Prelude.{◌≡◌, ℕ, Bool, false, cond, Option, Some, None}
 use Rattle.std.specs.FinMap.{FinMap, get}
 use Rattle.iot_text.specs.Paths.{path_cmp}
-use Rattle.iot_tree.specs.Tree.{Path, Nodes}
+use Rattle.iot_tree.specs.Tree.{Path, Nodes, root_alone}
 use Rattle.iot_tree.specs.declared.nodes.Node.{Node}
+use Rattle.iot_tree.specs.declared.nodes.Node.TheVariants.{FarDir}
 use Rattle.iot_stamp.specs.Mapped.{mapped}
 use Rattle.iot_tree.specs.Snapshots.{is_known, prune}
 
@@ -38,6 +39,10 @@ with_stamps f t = mapped (λ p node. stamped_node node (f p)) t
 -- the tree with stamp 0 at every row: no stamp of a server is known
 abbrev pub unstamped : Nodes → Stamps
 unstamped t = with_stamps (λ p. 0) t
+
+-- what a client holds that knows nothing: a root whose names are not known
+abbrev pub nothing_held : Stamps
+nothing_held = unstamped (root_alone FarDir)
 
 -- far rows have stamp 0
 abbrev pub FarZero : Stamps → Type 0

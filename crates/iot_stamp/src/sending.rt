@@ -4,42 +4,48 @@ ghost use Rattle.std.specs.List.{filter_map, AllByRecursion};
 ghost use Rattle.std.specs.FinMap.{is_sorted};
 ghost use Rattle.iot_text.specs.Paths.{IsPath, path_cmp};
 ghost use Rattle.iot_tree.specs.Rows.{AreTreeRows};
-ghost use Rattle.iot_tree.specs.Snapshots.{seen};
+ghost use Rattle.iot_prune.specs.Walks.{begins};
+ghost use Rattle.iot_tree.specs.Snapshots.{ArePathsRising, seen};
 ghost use Rattle.iot_stamp.specs.Stamps.{stamped_node};
-ghost use Rattle.iot_stamp.specs.Refresh.{asked, gone_paths, is_stamp, IsStampedRow};
+ghost use Rattle.iot_stamp.specs.Refresh.{gone_paths, is_stamp, IsStampedRow};
 ghost use Rattle.iot_stamp.specs.Pairing.{stamps_of};
-ghost use Rattle.iot_stamp.specs.Passes.{above_of, wanted, sending};
+ghost use Rattle.iot_stamp.specs.Passes.{above_of, kept, wanted, sending};
 
 use crate::cursor::{pass_all, pass_to, push_path};
 use crate::nodes::stamp_of;
+use iot_prune::walking::{begins, from};
 use iot_text::{NoMemory, Path};
 use iot_tree::{Changes, Duplicate, Node, Paths, StampedRows, Want};
 use std::alloc::Global;
 
-/// What changed for a client that sent these paths with their stamps: one pass over both lists.
+/// What changed for a client that sent these paths with their stamps, of the tree cut down to them, to those that are wanted and to
+/// the listed ones: one pass over the three lists.
 pub(crate) fn changes_in(
     alloc: Global,
     rows: &[(Path, Node)],
     stamps: &[u64],
     sent: &[(Path, u64)],
     want: &Want,
+    listed: &[Path],
 ) -> Result<Changes, NoMemory>
     requires tree { AreTreeRows rows.now }
     requires count { length stamps.now ≡ length rows.now }
     requires rising { IsTrue (is_sorted path_cmp sent.now) }
+    requires listed { ArePathsRising listed.now }
     ensures rows { IfOk result
         (λ out. out.rows
-        ≡ filter_map (sending (stamps_of rows.now stamps.now) sent.now (asked (stamps_of rows.now stamps.now) sent.now want.now))
+        ≡ filter_map (sending (stamps_of rows.now stamps.now) sent.now (kept (stamps_of rows.now stamps.now) sent.now want.now listed.now))
         rows.now) }
     ensures gone { IfOk result
         (λ out. out.gone
-        ≡ gone_paths (stamps_of rows.now stamps.now) sent.now (asked (stamps_of rows.now stamps.now) sent.now want.now)) }
+        ≡ gone_paths (stamps_of rows.now stamps.now) sent.now (kept (stamps_of rows.now stamps.now) sent.now want.now listed.now)) }
     ensures each { IfOk result (λ out. AllByRecursion IsStampedRow out.rows × AllByRecursion IsPath out.gone) }
 {
     let mut out = StampedRows::new(alloc);
     let mut gone = Paths::new(alloc);
     let mut flags: Vec<(bool, bool)> = Vec::new(alloc);
     let mut rest = sent;
+    let mut left = listed;
     'rows: for at in 0..rows.len() {
         let row = &rows[at];
         let stamp = stamps[at];
@@ -48,7 +54,8 @@ pub(crate) fn changes_in(
         let (known, after) = pass_to(alloc, &row.0, rest, &mut gone)?;
         push_if(alloc, is_hidden(known, above), &row.0, &mut gone)?;
         rest = after;
-        let kept = is_kept(&row.0, known, want);
+        left = from(&row.0, left);
+        let kept = is_kept(&row.0, known, want, left);
         let fresh = !is_stamp(known, stamp);
         flags.push(for_rows_below(above, kept, fresh))?;
         if is_sent(above, kept, fresh) {
@@ -110,11 +117,11 @@ fn is_wanted(want: &Want, path: &Path) -> bool
     }
 }
 
-/// Whether the path was sent or is wanted.
-fn is_kept(path: &Path, sent: Option<u64>, want: &Want) -> bool
-    ensures { result ≡ (is_some sent || wanted want.now path.now) }
+/// Whether the path was sent, is wanted or is the next listed one.
+fn is_kept(path: &Path, sent: Option<u64>, want: &Want, listed: &[Path]) -> bool
+    ensures { result ≡ ((is_some sent || wanted want.now path.now) || begins path.now listed.now) }
 {
-    sent.is_some() || is_wanted(want, path)
+    sent.is_some() || is_wanted(want, path) || begins(path, listed)
 }
 
 /// What is kept for the rows below.

@@ -1,4 +1,4 @@
-use Rattle.std.proofs.Common.{◌≡◌, ◌∙◌, ◌++◌, List, ap, sym}
+use Rattle.std.proofs.Common.{◌∙◌, ◌++◌, List, ap, sym}
 use Rattle.std.proofs.lemmas.List.{append-nil}
 use Rattle.iot_stamp.specs.Stamps.{Entry}
 use Rattle.iot_held.proofs.JoiningLaws.{nothing_moves}

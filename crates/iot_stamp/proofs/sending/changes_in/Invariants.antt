@@ -6,5 +6,5 @@ use Rattle.iot_stamp.proofs.sending.changes_in.Given as goal
 
 abbrev pub invariant-rows : goal.invariant-rows
 invariant-rows l =
-    SoFar l.rows l.stamps l.sent l.want l.rest l.flags.items l.out l.gone l.at
+    SoFar l.rows l.stamps l.sent l.want l.listed l.rest l.left l.flags.items l.out l.gone l.at
     × (AllByRecursion IsStampedRow l.out × AllByRecursion IsPath l.gone)

@@ -2,10 +2,10 @@ use Rattle.std.proofs.Common.{◌≡◌, ◌≢◌, ◌∙◌, sym, subst, refl,
 use Rattle.std.specs.Result.{OnOk, OnErr, IfErr}
 use Rattle.iot_tree.specs.Tree.{IsTree}
 use Rattle.iot_stamp.specs.Agreement.{Agrees}
-use Rattle.iot_stamp.specs.Refresh.{asked, known_with_stamps, merged}
+use Rattle.iot_stamp.specs.Refresh.{merged}
 use Rattle.iot_stamp.specs.Stamps.{Stamps, nodes_of}
 use Rattle.iot_stamp.proofs.AgreementLaws.{agrees_pruned}
-use Rattle.iot_held.proofs.OutcomeLaws.{merged_nothing, refresh_is, refresh_tree}
+use Rattle.iot_held.proofs.OutcomeLaws.{cut_is, cut_tree, merged_nothing}
 use Rattle.iot_held.specs.declared.merging.MergeFault.{MergeFault}
 use Rattle.iot_held.specs.declared.merging.MergeFault.TheVariants.{NoMemory, NoTree}
 use Rattle.iot_held.proofs.held.Held.merge.Goals as goal
@@ -26,21 +26,21 @@ only_memory (Err NoMemory) P is tree = refl
 only_memory (Err NoTree) P is tree = absurd (is (λ same. cc) tree)
 
 pub returns-clause-refreshed : goal.returns-clause-refreshed
-returns-clause-refreshed c = λ s want is.
+returns-clause-refreshed c = λ s k is.
     moved c.merge_changes-done.result _ _ c.merge_changes-done.ensures.ok (λ ok.
     ok ∙ (λ i. merged (c.self.view_is i) c.args.changes.rows c.args.changes.gone)
-    ∙ refresh_is c.args.self.now s want c.args.changes.rows c.args.changes.gone c.tree-before.ensures.tree c.tree-before.ensures.far is)
+    ∙ cut_is c.args.self.now s k c.args.changes.rows c.args.changes.gone c.tree-before.ensures.tree c.tree-before.ensures.far is)
 
 pub returns-clause-agrees : goal.returns-clause-agrees
-returns-clause-agrees c = λ s want is positive.
-    moved c.merge_changes-done.result _ _ (returns-clause-refreshed c s want is) (λ same.
-    subst (λ (t : Stamps). Agrees t s) (sym same) (agrees_pruned s (asked s (known_with_stamps c.args.self.now) want) positive))
+returns-clause-agrees c = λ s k is positive.
+    moved c.merge_changes-done.result _ _ (returns-clause-refreshed c s k is) (λ same.
+    subst (λ (t : Stamps). Agrees t s) (sym same) (agrees_pruned s k positive))
 
 pub returns-clause-only_memory : goal.returns-clause-only_memory
-returns-clause-only_memory c = λ s want is.
+returns-clause-only_memory c = λ s k is.
     only_memory c.merge_changes-done.result _ c.merge_changes-done.ensures.no_tree
     (subst (λ (t : Stamps). IsTree (nodes_of (merged t c.args.changes.rows c.args.changes.gone))) (sym c.self.view_is)
-    (refresh_tree c.args.self.now s want c.args.changes.rows c.args.changes.gone c.tree-before.ensures.tree
+    (cut_tree c.args.self.now s k c.args.changes.rows c.args.changes.gone c.tree-before.ensures.tree
     c.tree-before.ensures.far is))
 
 unchanged : (r : Result (Unit {0}) MergeFault) (old new : Stamps) → OnOk r (new ≡ old) → OnErr r (new ≡ old) → new ≡ old
