@@ -8,14 +8,13 @@ use Rattle.iot_views.specs.Rules.{IsNode, IsStampedNode, AreChanges}
 use Rattle.iot_limits.specs.Spelled.{IsSpelledNode, IsSpelledRow, IsSpelledTree}
 use Rattle.iot_stamp.proofs.SendingLaws.{sent_rows}
 use Rattle.iot_stamp.specs.Passes.{sending}
-use Rattle.iot_stamp.specs.Refresh.{asked, changed_rows, changes_for, is_new, IsStampedRow}
+use Rattle.iot_stamp.specs.Refresh.{changed_rows, changes_on, is_new, IsStampedRow}
 use Rattle.iot_stamp.specs.Stamps.{Entry, Stamps, nodes_of}
 use Rattle.iot_tree.specs.Snapshots.{seen, is_reached, ArePathsRising}
 use Rattle.iot_tree.specs.Tree.{Path, Row}
 use Rattle.iot_tree.specs.declared.changes.Changes.{Changes}
 use Rattle.iot_tree.specs.declared.nodes.Node.{Node}
 use Rattle.iot_tree.specs.declared.nodes.Node.TheVariants.{Dir, File, FarDir, FarFile}
-use Rattle.iot_tree.specs.declared.want.Want.{Want}
 use Rattle.iot_tree.proofs.EachLaws.{each_entry}
 
 -- a node that is sent has a spelling
@@ -59,12 +58,12 @@ rows_each : (rows : List Entry) → AllByRecursion IsStampedRow rows → HaveNod
 rows_each [] stamped nodes = tt
 rows_each (row ∷ rows) stamped nodes = ((stamped.0.0, (nodes.0, stamped.0.1)), rows_each rows stamped.1 nodes.1)
 
-pub changes_spelled : (s : Stamps) (sent : List (Path × ℕ)) (want : Want) (changes : Changes) → IsSpelledTree (nodes_of s)
-    → changes ≡ changes_for s sent want → IsTrue (is_sorted path_cmp changes.rows) × ArePathsRising changes.gone
+pub changes_spelled : (s : Stamps) (sent : List (Path × ℕ)) (k : Path → Bool) (changes : Changes) → IsSpelledTree (nodes_of s)
+    → changes ≡ changes_on s sent k → IsTrue (is_sorted path_cmp changes.rows) × ArePathsRising changes.gone
     → AllByRecursion IsStampedRow changes.rows × AllByRecursion IsPath changes.gone → AreChanges changes
-changes_spelled s sent want changes tree is rising each =
+changes_spelled s sent k changes tree is rising each =
     let nodes : HaveNodes changes.rows =
-    subst (λ (c : Changes). HaveNodes c.rows) (sym is) (changed_nodes s sent (asked s sent want) tree) in
+    subst (λ (c : Changes). HaveNodes c.rows) (sym is) (changed_nodes s sent k tree) in
     record {
       rows = record { rising = rising_table changes.rows rising.0; each = rows_each changes.rows each.0 nodes };
       gone = record { rising = rising.1; each = each.1 };

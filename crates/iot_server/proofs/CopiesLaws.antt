@@ -9,8 +9,6 @@ use Rattle.iot_slots.specs.Decoding.{State as Encoded}
 use Rattle.iot_store.specs.Rules.{IsCommit}
 use Rattle.iot_store.specs.States.{State}
 use Rattle.iot_store.specs.declared.commit.Commit.{Commit}
-use Rattle.iot_tree.specs.declared.access.Access.{Access}
-use Rattle.iot_tree.specs.declared.labels.Label.{Label}
 use Rattle.iot_wire.specs.Lent.{request_of}
 use Rattle.iot_wire.specs.Rules.{IsRequest}
 use Rattle.iot_wire.specs.Submissions.{Submission}

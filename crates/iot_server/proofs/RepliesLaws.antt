@@ -1,5 +1,5 @@
 -- Which bytes answer a request.
-use Rattle.std.proofs.Common.{◌≡◌, ◌+◌, ℕ, List, length, Option, None, Ok, Err, Result, inl, refl, sym, ap, subst, ◌∙◌}
+use Rattle.std.proofs.Common.{◌≡◌, ◌+◌, ℕ, List, [], length, Option, None, Ok, Err, Result, inl, refl, sym, ap, subst, ◌∙◌}
 use Rattle.std.specs.Prelude.{IfOk}
 use Rattle.iot_access.specs.Access.{FitInTurn}
 use Rattle.iot_acts.specs.Traces.{ReadsHold}
@@ -7,9 +7,10 @@ use Rattle.iot_certify.specs.Verdicts.{IsVerdictOnAccess}
 use Rattle.iot_certify.specs.declared.verdict.Verdict.{Verdict}
 use Rattle.iot_certify.specs.declared.verdict.Verdict.TheVariants.{Holds, Differs}
 use Rattle.iot_disk.specs.Disk.{Medium}
+use Rattle.iot_hoard.specs.Picking.{IsPick}
 use Rattle.iot_server.specs.Replies.{FollowsVerdict, IsAnswered, Submits}
 use Rattle.iot_slots.specs.Decoding.{State as Encoded}
-use Rattle.iot_stamp.specs.Refresh.{changes_for}
+use Rattle.iot_stamp.specs.Refresh.{changes_for, changes_on}
 use Rattle.iot_stamp.specs.Stamps.{Stamps}
 use Rattle.iot_store.specs.Numbers.{number_in}
 use Rattle.iot_store.specs.Standing.{IsGrown}
@@ -17,6 +18,8 @@ use Rattle.iot_store.specs.States.{State, after_commit}
 use Rattle.iot_store.specs.Store.{IsRecorded, encoded_on, state_of}
 use Rattle.iot_store.specs.declared.commit.Commit.{Commit as CommitOf}
 use Rattle.iot_store.specs.declared.store.Store.{Store}
+use Rattle.iot_tree.specs.Profiles.{Profile}
+use Rattle.iot_tree.specs.Snapshots.{has}
 use Rattle.iot_tree.specs.Tree.{Nodes, Path}
 use Rattle.iot_tree.specs.declared.access.Access.{Access}
 use Rattle.iot_tree.specs.declared.changes.Changes.{Changes}
@@ -27,7 +30,7 @@ use Rattle.iot_wire.specs.Messages.{IsMessage}
 use Rattle.iot_wire.specs.Rules.{IsReply}
 use Rattle.iot_wire.specs.Spelling.{reply_spelling}
 use Rattle.iot_wire.specs.declared.replies.Reply.TheVariants.{Objects, Committed, Conflict}
-use Rattle.iot_wire.specs.declared.requests.Request.TheVariants.{Refresh, Commit}
+use Rattle.iot_wire.specs.declared.requests.Request.TheVariants.{Refresh, Commit, Walk}
 
 -- what follows from a clause about Ok
 pub if_ok : {T E : Type 0} (P Q : T → Type 0) (result : Result T E) → ((x : T) → P x → Q x) → IfOk result P → IfOk result Q
@@ -55,6 +58,22 @@ module _ (before : State) (was : Encoded) (bytes : List ℕ) where
     answers = (ap Objects (is ∙ ap (λ (s : Stamps). changes_for s known want) same), refl);
     encodes = refl;
     spelled = record { value = has; spelled = sym spelled };
+  }
+
+  pub walked : (client : ℕ) (profile : Profile) (limit : ℕ) (paths : List Path) (changes : Changes) (tree : Nodes) (here : Stamps)
+      → tree ≡ before.tree → here ≡ before.stamps → IsPick tree profile limit paths → changes ≡ changes_on here [] (has paths)
+      → IsReply (Objects changes) → bytes ≡ reply_spelling (Objects changes)
+      → IsAnswered before was (Walk client profile limit) bytes before was
+  walked client profile limit paths changes tree here same_tree same picked is has_one spelled = record {
+    reply = Objects changes;
+    answers = (
+      paths,
+      subst (λ (t : Nodes). IsPick t profile limit paths) same_tree picked,
+      ap Objects (is ∙ ap (λ (s : Stamps). changes_on s [] (has paths)) same),
+      refl,
+    );
+    encodes = refl;
+    spelled = record { value = has_one; spelled = sym spelled };
   }
 
   module _ (label : Label) (access : Access) (lines : List (List ℕ)) (new : number_in before.labels label.client label.tid ≡ None) where

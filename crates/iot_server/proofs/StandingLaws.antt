@@ -1,25 +1,21 @@
 -- What a store holds has a spelling, and so has each answer of its tree.
-use Rattle.std.proofs.Common.{◌≡◌, ℕ, List, [], ◌∷◌, inl, inr, sym, ◌∙◌, subst}
-use Rattle.std.specs.FinMap.{entries, get-entries}
+use Rattle.std.proofs.Common.{◌≡◌, ℕ, List, [], ◌∷◌, inl, inr, sym, subst}
 use Rattle.std.specs.List.{zip}
 use Rattle.iot_access.specs.BaseReads.{Base}
 use Rattle.iot_certify.specs.Verdicts.{FailsAt, IsVerdictOnAccess}
 use Rattle.iot_certify.specs.declared.verdict.Verdict.TheVariants.{Differs}
-use Rattle.iot_views.specs.Rules.{IsAnswer, IsNode, IsRow, IsTreeOfRows}
+use Rattle.iot_views.specs.Rules.{IsAnswer}
 use Rattle.iot_disk.specs.Disk.{Medium}
 use Rattle.iot_limits.proofs.AnswerLaws.{tree_answers}
 use Rattle.iot_limits.proofs.TreesLaws.{tree_spelled}
-use Rattle.iot_limits.specs.Spelled.{IsSpelledNode, IsSpelledRow, IsSpelledTree}
+use Rattle.iot_limits.specs.Spelled.{IsSpelledTree}
 use Rattle.iot_store.specs.Standing.{EachStays}
 use Rattle.iot_store.specs.Store.{IsSynced, count_of, encoded_on, state_of, disk_of}
 use Rattle.iot_store.specs.declared.store.Store.{Store}
 use Rattle.iot_store.proofs.StandingLaws.{store_stays}
-use Rattle.iot_tree.specs.Tree.{Nodes, Path}
+use Rattle.iot_tree.specs.Tree.{Nodes}
 use Rattle.iot_tree.specs.declared.access.Access.{Access}
-use Rattle.iot_tree.specs.declared.nodes.Node.{Node}
-use Rattle.iot_tree.specs.declared.nodes.Node.TheVariants.{Dir, File, FarDir, FarFile}
 use Rattle.iot_tree.specs.declared.questions.Answer.{Answer}
-use Rattle.iot_tree.proofs.EachLaws.{found_row}
 
 -- ---- a store under which nothing is under way
 

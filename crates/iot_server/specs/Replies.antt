@@ -1,14 +1,17 @@
 -- What the server answers.
-use Rattle.std.specs.Prelude.{◌≡◌, ◌⊎◌, ℕ, ◌+◌, List, length, Option, Some, None}
+use Rattle.std.specs.Prelude.{◌≡◌, ◌⊎◌, ℕ, ◌+◌, List, [], length, Option, Some, None}
 use Rattle.iot_access.specs.Access.{FitInTurn}
 use Rattle.iot_certify.specs.Verdicts.{IsVerdictOnAccess}
 use Rattle.iot_certify.specs.declared.verdict.Verdict.{Verdict}
 use Rattle.iot_certify.specs.declared.verdict.Verdict.TheVariants.{Holds, Differs}
+use Rattle.iot_hoard.specs.Picking.{IsPick}
 use Rattle.iot_slots.specs.Decoding.{State as Encoded}
-use Rattle.iot_stamp.specs.Refresh.{changes_for}
+use Rattle.iot_stamp.specs.Refresh.{changes_for, changes_on}
 use Rattle.iot_store.specs.Numbers.{number_in}
 use Rattle.iot_store.specs.Standing.{IsGrown}
 use Rattle.iot_store.specs.States.{State, after_commit}
+use Rattle.iot_tree.specs.Snapshots.{has}
+use Rattle.iot_tree.specs.Tree.{Path}
 use Rattle.iot_tree.specs.declared.access.Access.{Access}
 use Rattle.iot_tree.specs.declared.labels.Label.{Label}
 use Rattle.iot_tree.specs.declared.questions.Answer.TheVariants.{Away}
@@ -16,7 +19,7 @@ use Rattle.iot_wire.specs.Messages.{IsMessage}
 use Rattle.iot_wire.specs.Rules.{IsRequest, IsReply}
 use Rattle.iot_wire.specs.Spelling.{request_spelling, reply_spelling}
 use Rattle.iot_wire.specs.declared.requests.Request.{Request}
-use Rattle.iot_wire.specs.declared.requests.Request.TheVariants.{Refresh, Commit}
+use Rattle.iot_wire.specs.declared.requests.Request.TheVariants.{Refresh, Commit, Walk}
 use Rattle.iot_wire.specs.declared.replies.Reply.{Reply}
 use Rattle.iot_wire.specs.declared.replies.Reply.TheVariants.{Objects, Committed, Already, Conflict}
 
@@ -44,6 +47,9 @@ Answers before (Refresh client known want) reply after =
     (reply ≡ Objects (changes_for before.stamps known want)) × (after ≡ before)
 Answers before (Commit label access lines) reply after =
     Submits (number_in before.labels label.client label.tid) before label access reply after
+Answers before (Walk client profile limit) reply after =
+    (paths : List Path) × IsPick before.tree profile limit paths × (reply ≡ Objects (changes_on before.stamps [] (has paths)))
+    × (after ≡ before)
 
 -- what the disk encodes after it: a commit that was made has one record more, its own
 abbrev pub EncodesAfter : Request → Reply → State → (was now : Encoded) → Type 0

@@ -19,14 +19,15 @@ ghost use Rattle.iot_wire.specs.Messages.{IsMessage};
 ghost use Rattle.iot_wire.specs.Rules.{IsRequest, IsReply};
 ghost use Rattle.iot_wire.specs.Spelling.{request_spelling, reply_spelling};
 ghost use Rattle.iot_wire.specs.declared.requests.Request.{Request as Asked};
-ghost use Rattle.iot_wire.specs.declared.requests.Request.TheVariants.{Refresh, Commit as Asks};
+ghost use Rattle.iot_wire.specs.declared.requests.Request.TheVariants.{Refresh, Commit as Asks, Walk};
 ghost use Rattle.iot_wire.specs.declared.replies.Reply.TheVariants.{Committed, Conflict};
 
 use iot_certify::{Verdict, certify_view};
 use iot_disk::{Disk, JournalFault};
+use iot_hoard::pick;
 use iot_store::{Commit, Store};
 use iot_text::NoMemory;
-use iot_tree::{Access, Answer, Known, Tree, Want};
+use iot_tree::{Access, Answer, Known, Profile, Tree, Want};
 use iot_wire::{CommitView, Reply, Request, RequestView, read_request, write_reply};
 use std::alloc::Global;
 
@@ -56,6 +57,11 @@ pub(crate) fn answer<D: Disk>(
             want,
         } => Ok(lend(alloc, store, known, want)?),
         RequestView::Commit(commit) => submit(alloc, store, commit, bytes),
+        RequestView::Walk {
+            client: _,
+            profile,
+            limit,
+        } => Ok(walk(alloc, store, profile, *limit)?),
     }
 }
 
@@ -74,6 +80,23 @@ fn lend<D: Disk>(
         (state_of store.now) (encoded_on D.medium store.now)) }
 {
     let changes = store.stamped().changed(alloc, known.as_slice(), want)?;
+    write_reply(alloc, &Reply::Objects(changes))
+}
+
+/// What the profile takes along of its tree within the limit. It costs what `pick` does, and one pass over the tree.
+fn walk<D: Disk>(
+    alloc: Global,
+    store: &Store<D>,
+    profile: &Profile,
+    limit: u64,
+) -> Result<Vec<u8>, NoMemory>
+    requires { IsSynced D.medium store.now }
+    ensures { (client : _) → IfOk result (λ bytes.
+        IsAnswered (state_of store.now) (encoded_on D.medium store.now) (Walk client profile.now limit) bytes.items
+        (state_of store.now) (encoded_on D.medium store.now)) }
+{
+    let paths = pick(alloc, store.tree(), profile, limit)?;
+    let changes = store.stamped().listed(alloc, paths.as_slice())?;
     write_reply(alloc, &Reply::Objects(changes))
 }
 

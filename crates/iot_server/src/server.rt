@@ -109,10 +109,12 @@ impl<D: Disk> Server<D> {
 
     /// Answers the bytes that a client sent. A refresh is answered by what changed for the client: of the tree, cut down to what
     /// the client knows or wants to know, the rows that are new to it, with their stamps, and the paths that it sent and that are
-    /// gone. It takes one pass over the tree and the sent paths. A commit is answered by the number of its transaction, if that is
-    /// among the commits or if all that it read still holds, and else by the read that differs; it takes as much as the request is
-    /// long, and a search for each read and update. It is judged where it lies in the request, and copied out of that only if what it
-    /// read holds. Its record is on the disk when this answers Ok.
+    /// gone. It takes one pass over the tree and the sent paths. A walk is answered by the rows that its profile takes along of the
+    /// tree within its limit, with their stamps. It takes one pass over the tree, a search for each path that a wish names or that is
+    /// above it, and a pass over the rows below each path of a wish that reaches below. A commit is answered by the number of its
+    /// transaction, if that is among the commits or if all that it read still holds, and else by the read that differs; it takes as
+    /// much as the request is long, and a search for each read and update. It is judged where it lies in the request, and copied out
+    /// of that only if what it read holds. Its record is on the disk when this answers Ok.
     ///
     /// # Errors
     ///

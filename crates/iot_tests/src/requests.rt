@@ -82,7 +82,7 @@ fn answers_each<D: Disk>(rt: &impl Abort, alloc: Global, server: &mut Server<D>)
     answers(rt, alloc, server, LATE, CONFLICT)?;
     answers(rt, alloc, server, REFRESH, OBJECTS)?;
     answers(rt, alloc, server, AGAIN, NOTHING)?;
-    let bad = server.handle(alloc, b"\x03");
+    let bad = server.handle(alloc, b"\x04");
     assert!(rt; matches!(bad, Err(ServerFault::Malformed { at: 0 })));
     let traffic = Traffic {
         requests: 5,
