@@ -1,13 +1,10 @@
 -- What is read of bytes that are the spelling of a reply, and how a call ends by what it reads.
 use Rattle.std.proofs.Common.{◌≡◌, ℕ, ◌<◌, ◌^◌, List, length, Option, None, ap, refl, sym, subst}
 use Rattle.std.specs.Prelude.{IfErr, IsErrAnd, Result, Ok, Err}
-use Rattle.iot_stamp.specs.Stamps.{Stamps, nodes_of}
-use Rattle.iot_tree.specs.Tree.{Nodes, IsTree, root_alone}
-use Rattle.iot_tree.specs.declared.nodes.Node.TheVariants.{FarDir}
+use Rattle.iot_stamp.specs.Stamps.{Stamps, nodes_of, nothing_held}
+use Rattle.iot_tree.specs.Tree.{Nodes, IsTree}
 use Rattle.iot_views.specs.Rules.{IsTreeOfRows}
-use Rattle.iot_stamp.proofs.StampsLaws.{nodes_with}
-use Rattle.iot_kept.proofs.BringingLaws.{brought_spelled}
-use Rattle.iot_kept.proofs.SpelledLaws.{far_root_rows}
+use Rattle.iot_kept.proofs.BringingLaws.{brought_spelled, nothing_rows}
 use Rattle.iot_tree.specs.declared.changes.Changes.{Changes}
 use Rattle.iot_wire.proofs.MessagesLaws.{whole_again}
 use Rattle.iot_wire.proofs.SpellingLaws.{reply_laws}
@@ -15,7 +12,6 @@ use Rattle.iot_wire.specs.declared.replies.Reply.TheVariants.{Objects}
 use Rattle.iot_client.specs.Calls.{EndsBy, RefusesReply}
 use Rattle.iot_client.specs.Faults.{MayFail}
 use Rattle.iot_client.specs.Messages.{objects, objects_in, noted, Makes, no_changes, MakesOf, Reads, ReadsAs, ReadsObjects, ReadsNoted}
-use Rattle.iot_client.specs.Messages.{nothing_held}
 use Rattle.iot_client.specs.declared.client.Client.{Client}
 use Rattle.iot_client.specs.declared.fault.ClientFault.{ClientFault}
 use Rattle.iot_client.specs.declared.fault.ClientFault.TheVariants.{NoMemory, Stopped, Busy, Pending, Idle, NotAtEnd, Nothing}
@@ -89,6 +85,5 @@ module _ (Passes : Nodes → Type 0) (held : Stamps) (reply : List ℕ) (fault :
 -- it has a spelling
 pub whole_rows : {reply : List ℕ} {held : Stamps} → MakesOf reply held → IsTreeOfRows (nodes_of held)
 whole_rows it =
-    let none = subst IsTreeOfRows (sym (nodes_with (λ p. 0) (root_alone FarDir))) far_root_rows in
     let tree = subst (λ (t : Stamps). IsTree (nodes_of t)) it.is it.tree in
-    subst (λ (t : Stamps). IsTreeOfRows (nodes_of t)) (sym it.is) (brought_spelled nothing_held it.changes none it.spelled.value tree)
+    subst (λ (t : Stamps). IsTreeOfRows (nodes_of t)) (sym it.is) (brought_spelled nothing_held it.changes nothing_rows it.spelled.value tree)

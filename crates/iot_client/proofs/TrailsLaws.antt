@@ -1,7 +1,7 @@
 -- What a held tree has of a server's stamps through the calls of its client.
 use Rattle.std.proofs.Common.{◌≡◌, ℕ, Bool, List, [], ◌∷◌, Option, ap, Ok}
 use Rattle.iot_stamp.specs.Agreement.{IsPositive}
-use Rattle.iot_stamp.specs.Stamps.{Stamps}
+use Rattle.iot_stamp.specs.Stamps.{Stamps, nothing_held}
 use Rattle.iot_changes.specs.declared.changes.Change.{Change}
 use Rattle.iot_changes.specs.declared.changes.Change.TheVariants as changed
 use Rattle.iot_lang.specs.Code.{Code}
@@ -13,7 +13,7 @@ use Rattle.iot_client.specs.declared.ended.Ended.{Ended}
 use Rattle.iot_client.specs.declared.ended.Ended.TheVariants as ends
 use Rattle.iot_client.specs.declared.noted.Noted.{Noted}
 use Rattle.iot_client.specs.declared.steps.Step.{Step}
-use Rattle.iot_client.specs.Messages.{objects_in, ReadsObjects, nothing_held}
+use Rattle.iot_client.specs.Messages.{objects_in, ReadsObjects}
 use Rattle.iot_wire.specs.declared.replies.Reply.TheVariants.{Objects}
 use Rattle.iot_client.specs.declared.client.Client.{Client}
 use Rattle.iot_disk.specs.Disk.{Medium}

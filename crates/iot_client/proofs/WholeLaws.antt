@@ -13,13 +13,13 @@ use Rattle.iot_tree.specs.Tree.{Path, Row, Nodes, IsTree, IsWhole}
 use Rattle.iot_tree.specs.declared.nodes.Node.{Node}
 use Rattle.iot_tree.specs.declared.nodes.Node.TheVariants.{FarDir, FarFile}
 use Rattle.iot_tree.specs.declared.changes.Changes.{Changes}
-use Rattle.iot_stamp.specs.Stamps.{Stamps, nodes_of}
+use Rattle.iot_stamp.specs.Stamps.{Stamps, nodes_of, nothing_held}
 use Rattle.iot_wire.specs.Messages.{IsMessage}
 use Rattle.iot_wire.specs.Rules.{IsReply}
 use Rattle.iot_wire.specs.Spelling.{reply_spelling}
 use Rattle.iot_wire.specs.declared.replies.Reply.TheVariants.{Objects}
 use Rattle.iot_kept.specs.Bringing.{brought}
-use Rattle.iot_client.specs.Messages.{objects_in, is_known_row, is_whole, nothing_held, MakesWhole, MakesOf, made, no_tree}
+use Rattle.iot_client.specs.Messages.{objects_in, is_known_row, is_whole, MakesWhole, MakesOf, made, no_tree}
 
 first_so : (a b : Bool) → (a && b) ≡ true → a ≡ true
 first_so true b is = refl

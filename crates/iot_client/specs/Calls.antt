@@ -9,7 +9,7 @@ use Rattle.iot_disk.specs.Disk.{Medium}
 use Rattle.iot_slots.specs.Cells.{next}
 use Rattle.iot_tree.specs.Tree.{Path, Nodes, IsTree, IsWhole}
 use Rattle.iot_tree.specs.declared.changes.Changes.{Changes}
-use Rattle.iot_stamp.specs.Stamps.{Stamps, nodes_of}
+use Rattle.iot_stamp.specs.Stamps.{Stamps, nodes_of, nothing_held}
 use Rattle.iot_tree.specs.declared.acts.Act.{Act}
 use Rattle.iot_tree.specs.declared.limits.TheConstants.{ACT_LIMIT}
 use Rattle.iot_tree.specs.declared.want.Want.TheVariants as wants
@@ -29,7 +29,7 @@ use Rattle.iot_resolve.specs.declared.plan.Plan.{Plan}
 use Rattle.iot_kept.specs.States.{Transaction, State, view, own_view, has_number, numbered}
 use Rattle.iot_bodies.specs.declared.running.TheConstants.{RUN_LIMIT}
 use Rattle.iot_kept.specs.Changes.{IsInConflict, CanFollow, with_act, after}
-use Rattle.iot_kept.specs.Bringing.{brought, bringing}
+use Rattle.iot_kept.specs.Bringing.{base_for, brought, bringing}
 use Rattle.iot_kept.specs.Stamps.{StampsBy}
 use Rattle.iot_kept.specs.declared.bringing.Purpose.{Purpose}
 use Rattle.iot_kept.specs.Standing.{EachStands, EachStandsEither}
@@ -38,7 +38,7 @@ use Rattle.iot_changes.specs.declared.changes.Change.{Change}
 use Rattle.iot_changes.specs.declared.changes.Change.TheVariants as changes
 use Rattle.iot_client.specs.Faults.{MayFail}
 use Rattle.iot_wire.specs.Meanings.{IsRefresh}
-use Rattle.iot_client.specs.Messages.{IsToldBy, objects_in, nothing_held, noted_in}
+use Rattle.iot_client.specs.Messages.{IsToldBy, objects_in, noted_in}
 use Rattle.iot_client.specs.Ties.{state_of, stamps_of, place_of, disk_of, records_of, Live, run_of}
 use Rattle.iot_client.specs.declared.client.Client.{Client}
 use Rattle.iot_client.specs.declared.fault.ClientFault.{ClientFault}
@@ -174,14 +174,14 @@ pub record CutsOff (change : Change) (state : State) (records : ℕ) (images : L
   pub follows : CanFollow state change
   pub either : EachStandsEither images records state (after state change)
 
--- the changes that the reply brings were merged into the held tree; the outcome is a tree, and the change of what is durable is the one
--- that brings it
+-- the changes that the reply brings were merged into the held tree, or for a walk into nothing; the outcome is a tree, and the change of
+-- what is durable is the one that brings it
 pub record Brings {D : Type 0} (purpose : Purpose) (reply : List ℕ) (old new : Client D) : Type 0 where
   pub changes : Changes
   pub read : objects_in reply ≡ Ok changes
   pub spelled : IsMessage IsReply reply_spelling reply (Objects changes)
-  pub stamps : stamps_of new ≡ brought (stamps_of old) changes
-  pub tree : IsTree (nodes_of (brought (stamps_of old) changes))
+  pub stamps : stamps_of new ≡ brought (base_for purpose (stamps_of old)) changes
+  pub tree : IsTree (nodes_of (brought (base_for purpose (stamps_of old)) changes))
   pub notes : Notes (bringing purpose (stamps_of old) changes) old new
 
 -- it was stopped while it appended that change
@@ -190,7 +190,7 @@ pub record CutsOffByTree (purpose : Purpose) (reply : List ℕ) (held : Stamps) 
   pub changes : Changes
   pub read : objects_in reply ≡ Ok changes
   pub spelled : IsMessage IsReply reply_spelling reply (Objects changes)
-  pub tree : IsTree (nodes_of (brought held changes))
+  pub tree : IsTree (nodes_of (brought (base_for purpose held) changes))
   pub cuts_off : CutsOff (bringing purpose held changes) state records images
 
 -- what is so of the first that waits, if there is one

@@ -3,12 +3,12 @@ use Rattle.std.specs.Prelude.{◌≡◌, ℕ, ⊤, Bool, length, List, [], ◌�
 use Rattle.std.specs.FinMap.{entries}
 use Rattle.std.specs.List.{list_all}
 use Rattle.iot_tree.specs.Snapshots.{is_known}
-use Rattle.iot_tree.specs.Tree.{Row, Nodes, IsTree, IsWhole, root_alone}
+use Rattle.iot_tree.specs.Tree.{Row, Nodes, IsTree, IsWhole}
 use Rattle.iot_tree.specs.declared.access.Access.{Access}
 use Rattle.iot_tree.specs.declared.changes.Changes.{Changes}
-use Rattle.iot_tree.specs.declared.nodes.Node.TheVariants.{FarDir}
 use Rattle.iot_access.specs.Access.{access_of, lines_of}
-use Rattle.iot_stamp.specs.Stamps.{Stamps, nodes_of, unstamped}
+use Rattle.iot_stamp.specs.Stamps.{Stamps, nodes_of}
+pub use Rattle.iot_stamp.specs.Stamps.{nothing_held}
 use Rattle.iot_kept.specs.Bringing.{brought}
 use Rattle.iot_tree.specs.declared.labels.Label.{Label}
 use Rattle.iot_tree.specs.declared.labels.OnConflict.{OnConflict}
@@ -131,9 +131,6 @@ abbrev pub MakesTree : Stamps → List ℕ → Result Stamps ℕ → Type 0
 MakesTree held bytes = Makes IsTree held bytes
 
 -- merged into nothing, it is a whole tree
-abbrev pub nothing_held : Stamps
-nothing_held = unstamped (root_alone FarDir)
-
 abbrev pub MakesWhole : List ℕ → Result Stamps ℕ → Type 0
 MakesWhole bytes = Makes (λ t. IsTree t × IsWhole t) nothing_held bytes
 

@@ -1,12 +1,14 @@
 //! Asking for objects, and holding what a reply brings.
 ghost use Rattle.std.specs.Prelude.{◌≡◌, ◌≤◌, Ok, IfOk, OnOk, IsErrOf};
-ghost use Rattle.iot_kept.specs.Bringing.{brought_for};
+ghost use Rattle.iot_kept.specs.Bringing.{base_for, brought_for};
 ghost use Rattle.iot_kept.specs.Changes.{CanFollow};
 ghost use Rattle.iot_kept.specs.Kept.{IsSynced};
 ghost use Rattle.iot_client.specs.Calls.{Stays, pending, RefusesFor, RefusesReply, EndsBy, Brings, CutsOffByTree};
 ghost use Rattle.iot_client.specs.Faults.{CountsFault};
-ghost use Rattle.iot_wire.specs.Meanings.{IsRefresh};
+ghost use Rattle.iot_tree.specs.Profiles.{IsProfile, IsWalkLimit};
+ghost use Rattle.iot_wire.specs.Meanings.{IsRefresh, IsWalk};
 ghost use Rattle.iot_client.specs.Messages.{objects_in, MakesTree, ReadsObjects};
+ghost use Rattle.iot_stamp.specs.Stamps.{nothing_held};
 ghost use Rattle.iot_wire.specs.Messages.{IsMessage};
 ghost use Rattle.iot_wire.specs.Rules.{IsReply};
 ghost use Rattle.iot_wire.specs.Spelling.{reply_spelling};
@@ -15,11 +17,11 @@ ghost use Rattle.iot_wire.specs.declared.replies.Reply.TheVariants.{Objects};
 use crate::client::Client;
 use crate::fault::ClientFault;
 use crate::replies::{bad_at_its_end, objects};
-use crate::requests::refresh;
+use crate::requests::{refresh, walk};
 use iot_disk::Disk;
 use iot_kept::{BringFault, Purpose};
 use iot_text::{NoMemory, Text};
-use iot_tree::{Changes, Duplicate, Want};
+use iot_tree::{Changes, Duplicate, Profile, Want};
 use std::alloc::Global;
 
 impl<D: Disk> Client<D> {
@@ -38,6 +40,29 @@ impl<D: Disk> Client<D> {
         match self.pending() {
             Some(fault) => Err(fault),
             None => Ok(self.request_for(alloc, want.copy(alloc)?)?.into_bytes()),
+        }
+    }
+
+    /// The request for what the profile wishes, as much as fits into the limit. It changes nothing.
+    ///
+    /// # Errors
+    ///
+    /// `Pending` if a transaction waits, `NoMemory`.
+    pub fn ask_walk(
+        &self,
+        alloc: Global,
+        profile: &Profile,
+        limit: u64,
+    ) -> Result<Vec<u8>, ClientFault>
+        requires place { place_of self.now ≤ 7 }
+        requires profile { IsProfile profile.now }
+        requires limit { IsWalkLimit limit }
+        ensures request { IfOk result (λ bytes. IsWalk (place_of self.now) profile.now limit bytes.items) }
+        ensures refuses { RefusesFor (pending (state_of self.now).items) result }
+    {
+        match self.pending() {
+            Some(fault) => Err(fault),
+            None => Ok(walk(alloc, self.me, profile, limit)?.into_bytes()),
         }
     }
 
@@ -71,6 +96,36 @@ impl<D: Disk> Client<D> {
         }
     }
 
+    /// Holds the tree that the reply's changes make of nothing, in place of the held one; what runs goes on, on its own view. Appends one
+    /// record, as long as that tree.
+    ///
+    /// # Errors
+    ///
+    /// `Pending` if a transaction waits, `BadReply` if the bytes are no reply that brings changes, or, at their end, if these make no tree
+    /// of nothing, `NoMemory`, `Stopped`.
+    pub fn take_walk(&mut self, alloc: Global, reply: &[u8]) -> Result<(), ClientFault>
+        requires { IsTied D.medium self.old }
+        ensures brings { OnOk result (Brings Purpose.Walk reply.now self.old self.new) }
+        ensures only { ReadsObjects reply.now }
+        ensures live { OnOk result (live_of self.new ≡ live_of self.old) }
+        ensures tied { OnOk result (IsTied D.medium self.new) }
+        ensures refuses { RefusesReply (pending (state_of self.old).items)
+            (MakesTree nothing_held reply.now) self.old self.new result }
+        ensures counts { CountsFault result (D.medium.faults (disk_of self.old)) (D.medium.faults (disk_of self.new)) }
+        ensures arms { D.medium.arms (disk_of self.new) ≡ D.medium.arms (disk_of self.old) }
+        ensures stopped { IsErrOf result ClientFault.Stopped → CutsOffByTree Purpose.Walk reply.now
+            (stamps_of self.old) (state_of self.old) (records_of self.old) (D.medium.may_leave (disk_of self.new)) }
+        ensures no_memory { IsErrOf result ClientFault.NoMemory → Stays D.medium self.old self.new }
+    {
+        match self.pending() {
+            Some(refusal) => Err(refusal),
+            None => {
+                let changes = objects(alloc, reply)?;
+                self.bring(alloc, changes, Purpose::Walk, reply)
+            }
+        }
+    }
+
     /// The request for what is known, and for what is wanted.
     pub(crate) fn request_for(&self, alloc: Global, want: Want) -> Result<Text, NoMemory>
         requires { place_of self.now ≤ 7 }
@@ -80,7 +135,7 @@ impl<D: Disk> Client<D> {
         refresh(alloc, self.me, known, want)
     }
 
-    /// Merges the changes that the reply brings into the held tree, for this purpose.
+    /// Merges the changes that the reply brings into the held tree, or for a walk into nothing.
     pub(crate) fn bring(
         &mut self,
         alloc: Global,
@@ -96,7 +151,7 @@ impl<D: Disk> Client<D> {
         ensures classes { OnOk result (classes_in self.new ≡ classes_in self.old) }
         ensures synced { OnOk result (IsSynced D.medium self.new.kept) }
         ensures interpreters { self.new.interpreters ≡ self.old.interpreters }
-        ensures ends { EndsBy (MakesTree (stamps_of self.old) reply.now) self.old self.new result }
+        ensures ends { EndsBy (MakesTree (base_for purpose (stamps_of self.old)) reply.now) self.old self.new result }
         ensures counts { CountsFault result (D.medium.faults (disk_of self.old)) (D.medium.faults (disk_of self.new)) }
         ensures arms { D.medium.arms (disk_of self.new) ≡ D.medium.arms (disk_of self.old) }
         ensures stopped { IsErrOf result ClientFault.Stopped → CutsOffByTree purpose reply.now

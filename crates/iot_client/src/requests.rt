@@ -9,7 +9,8 @@ ghost use Rattle.iot_stamp.specs.Refresh.{known_with_stamps};
 ghost use Rattle.iot_stamp.specs.Stamps.{Stamps};
 ghost use Rattle.iot_changes.specs.Rules.{IsResolution};
 ghost use Rattle.iot_kept.specs.Spelled.{IsSpelledItem};
-ghost use Rattle.iot_wire.specs.Meanings.{IsRefresh};
+ghost use Rattle.iot_tree.specs.Profiles.{IsProfile, IsWalkLimit};
+ghost use Rattle.iot_wire.specs.Meanings.{IsRefresh, IsWalk};
 ghost use Rattle.iot_wire.specs.Messages.{IsMessage};
 ghost use Rattle.iot_wire.specs.Rules.{IsRequest};
 ghost use Rattle.iot_wire.specs.Spelling.{request_spelling};
@@ -21,9 +22,10 @@ use crate::asks::Ask;
 use iot_queue::{Item, Resolution, Stage};
 use iot_text::{Name, NoMemory, Path, Text};
 use iot_tree::{
-    ACT_LIMIT, Access, Act, Duplicate, Files, Known, Label, Lines, OnConflict, Tree, Want, Way,
+    ACT_LIMIT, Access, Act, Duplicate, Files, Known, Label, Lines, OnConflict, Profile, Tree, Want,
+    Way,
 };
-use iot_wire::{Request, put_commit, write_request};
+use iot_wire::{Request, put_commit, put_walk, write_request};
 use std::alloc::Global;
 
 /// How many bytes a submission has room for at first, which are enough for most of them.
@@ -75,6 +77,23 @@ fn whole(alloc: Global, client: u64) -> Result<Text, NoMemory>
         want: Want::Below(Path::root(alloc)),
     };
     Ok(Text::from(write_request(alloc, &request)?))
+}
+
+/// The request for what the profile takes along within the limit. Nothing is said of what is known.
+pub(crate) fn walk(
+    alloc: Global,
+    client: u64,
+    profile: &Profile,
+    limit: u64,
+) -> Result<Text, NoMemory>
+    requires client { client ≤ 7 }
+    requires profile { IsProfile profile.now }
+    requires limit { IsWalkLimit limit }
+    ensures { IfOk result (IsWalk client profile.now limit) }
+{
+    let mut out = Text::with_capacity(alloc, ROOM)?;
+    put_walk(client, profile, limit, &mut out)?;
+    Ok(out)
 }
 
 /// What a transaction that waits needs of the server, by its stage. It waits on the held tree; the access is that of its resolution, if

@@ -7,26 +7,27 @@ use Rattle.std.specs.Ordering.{eq_by_cmp}
 use Rattle.std.specs.FinMap.{get, find, entries, get-from_entries}
 use Rattle.iot_text.specs.Paths.{path_cmp}
 use Rattle.iot_text.proofs.PathsLaws.{path_total}
-use Rattle.iot_tree.specs.Tree.{Path, Nodes, IsTree}
+use Rattle.iot_tree.specs.Tree.{Path, Nodes, IsTree, root_alone}
 use Rattle.iot_tree.specs.declared.changes.Changes.{Changes}
 use Rattle.iot_tree.specs.declared.nodes.Node.{Node}
+use Rattle.iot_tree.specs.declared.nodes.Node.TheVariants.{FarDir}
 use Rattle.iot_tree.proofs.EachLaws.{each_entry}
 use Rattle.iot_tree.proofs.PathLaws.{tied}
 use Rattle.iot_views.specs.Rules.{IsNumber, IsRow, IsStampedNode, AreChanges, IsTreeOfRows}
 use Rattle.iot_text.specs.Paths.{IsPath}
 use Rattle.iot_stamp.specs.Refresh.{zeroed, joined, merged, stays}
-use Rattle.iot_stamp.specs.Stamps.{Entry, Stamps, nodes_of}
+use Rattle.iot_stamp.specs.Stamps.{Entry, Stamps, nodes_of, nothing_held}
 use Rattle.iot_stamp.proofs.MappedLaws.{entries_of_mapped, get_mapped}
-use Rattle.iot_stamp.proofs.StampsLaws.{get_nodes}
+use Rattle.iot_stamp.proofs.StampsLaws.{get_nodes, nodes_with}
 use Rattle.iot_changes.specs.Rules.{IsChange}
 use Rattle.iot_changes.specs.declared.changes.Change.{Change}
-use Rattle.iot_kept.specs.Bringing.{brought, brought_for, bringing}
+use Rattle.iot_kept.specs.Bringing.{base_for, brought, brought_for, bringing}
 use Rattle.iot_kept.specs.Changes.{CanFollow, after}
 use Rattle.iot_kept.specs.Spelled.{IsSpelledState}
 use Rattle.iot_kept.specs.States.{State}
 use Rattle.iot_kept.specs.declared.bringing.Purpose.{Purpose}
-use Rattle.iot_kept.specs.declared.bringing.Purpose.TheVariants.{Hold, Fetch}
-use Rattle.iot_kept.proofs.SpelledLaws.{numbers_spelled}
+use Rattle.iot_kept.specs.declared.bringing.Purpose.TheVariants.{Hold, Fetch, Walk}
+use Rattle.iot_kept.proofs.SpelledLaws.{far_root_rows, numbers_spelled}
 use Rattle.iot_kept.proofs.StatesLaws.{run_number}
 
 -- ---- entries whose rows have spellings
@@ -72,6 +73,7 @@ found p (e ∷ es) row all is = by (eq_by_cmp path_cmp p e.0) refl is (λ here. 
 abbrev pub IsSpelledPurpose : Purpose → Type 0
 IsSpelledPurpose Hold = Unit {0}
 IsSpelledPurpose (Fetch number) = IsNumber number
+IsSpelledPurpose Walk = Unit {0}
 
 -- one that runs has
 pub purpose_spelled : (purpose : Purpose) (state : State) (t : Nodes) → IsSpelledState state → CanFollow state (brought_for purpose t)
@@ -79,21 +81,25 @@ pub purpose_spelled : (purpose : Purpose) (state : State) (t : Nodes) → IsSpel
 purpose_spelled Hold state t spelled follows = tt
 purpose_spelled (Fetch number) state t spelled follows =
     run_number IsNumber number state.running _ follows.0 (numbers_spelled state.running spelled.running)
+purpose_spelled Walk state t spelled follows = tt
 
 is_change : (purpose : Purpose) (t : Nodes) → IsSpelledPurpose purpose → IsTreeOfRows t → IsChange (brought_for purpose t)
 is_change Hold t is rows = rows
 is_change (Fetch number) t is rows = (is, rows)
+is_change Walk t is rows = rows
 
 -- whether it can follow does not depend on the tree
 pub follows_with : (state : State) (purpose : Purpose) (t u : Nodes) → CanFollow state (brought_for purpose t)
     → CanFollow state (brought_for purpose u)
 follows_with state Hold t u follows = follows
 follows_with state (Fetch number) t u follows = follows
+follows_with state Walk t u follows = follows
 
 -- the tree is held after it
 brought_held : (purpose : Purpose) (state : State) (t : Nodes) → (after state (brought_for purpose t)).held ≡ t
 brought_held Hold state t = refl
 brought_held (Fetch number) state t = refl
+brought_held Walk state t = refl
 
 -- whatever change it is that brings it
 pub same_tree : (purpose : Purpose) (state now : State) (t u : Nodes) (change : Change) → t ≡ u → change ≡ brought_for purpose t
@@ -103,6 +109,15 @@ same_tree purpose state now t u change is made follows =
     ∙ ap (λ (s : State). s.held) (sym follows)
 
 -- ---- what is brought
+
+pub nothing_rows : IsTreeOfRows (nodes_of nothing_held)
+nothing_rows = subst IsTreeOfRows (sym (nodes_with (λ p. 0) (root_alone FarDir))) far_root_rows
+
+-- what the changes are merged into has a spelling
+pub base_spelled : (purpose : Purpose) (held : Stamps) → IsTreeOfRows (nodes_of held) → IsTreeOfRows (nodes_of (base_for purpose held))
+base_spelled Hold held spelled = spelled
+base_spelled (Fetch number) held spelled = spelled
+base_spelled Walk held spelled = nothing_rows
 
 module _ (held : Stamps) (changes : Changes) (spelled : IsTreeOfRows (nodes_of held)) (are : AreChanges changes) where
   abbrev all_rows : List Entry
@@ -130,18 +145,21 @@ module _ (held : Stamps) (changes : Changes) (spelled : IsTreeOfRows (nodes_of h
   pub brought_spelled : IsTree (nodes_of (brought held changes)) → IsTreeOfRows (nodes_of (brought held changes))
   brought_spelled tree = record { tree = tree; each = each_entry (λ p node. IsRow (p, node)) (nodes_of (brought held changes)) node_at }
 
-  -- the change that brings it has a spelling, ..
-  pub brings_spelled : (purpose : Purpose) → IsSpelledPurpose purpose → IsTree (nodes_of (brought held changes))
-      → IsChange (bringing purpose held changes)
-  brings_spelled purpose is tree = is_change purpose (nodes_of (brought held changes)) is (brought_spelled tree)
+-- the change that brings it has a spelling, ..
+pub brings_spelled : (held : Stamps) (changes : Changes) → IsTreeOfRows (nodes_of held) → AreChanges changes → (purpose : Purpose)
+    → IsSpelledPurpose purpose → IsTree (nodes_of (brought (base_for purpose held) changes)) → IsChange (bringing purpose held changes)
+brings_spelled held changes spelled are purpose is tree =
+    let base = base_for purpose held in
+    is_change purpose (nodes_of (brought base changes)) is (brought_spelled base changes (base_spelled purpose held spelled) are tree)
 
 -- .. also if it was merged into an equal tree
-pub change_spelled : (state : State) (held stamps now : Stamps) (changes : Changes) (purpose : Purpose) (t u : Nodes) (change : Change)
-    → held ≡ stamps → IsSpelledState state → CanFollow state (brought_for purpose u) → IsTreeOfRows (nodes_of stamps) → AreChanges changes
-    → now ≡ brought held changes → IsTree (nodes_of now) → t ≡ nodes_of now → change ≡ brought_for purpose t → IsChange change
-change_spelled state held stamps now changes purpose t u change same all follows spelled are merged tree is made =
-    let rows = subst (λ (s : Stamps). IsTreeOfRows (nodes_of s)) (sym same) spelled in
-    let outcome = subst (λ (s : Stamps). IsTree (nodes_of s)) merged tree in
+pub change_spelled : (state : State) (stamps base now : Stamps) (changes : Changes) (purpose : Purpose) (t u : Nodes) (change : Change)
+    → base ≡ base_for purpose stamps → IsSpelledState state → CanFollow state (brought_for purpose u) → IsTreeOfRows (nodes_of stamps)
+    → AreChanges changes → now ≡ brought base changes → IsTree (nodes_of now) → t ≡ nodes_of now → change ≡ brought_for purpose t
+    → IsChange change
+change_spelled state stamps base now changes purpose t u change same all follows spelled are merged tree is made =
+    let whole : now ≡ brought (base_for purpose stamps) changes = merged ∙ ap (λ (s : Stamps). brought s changes) same in
+    let outcome = subst (λ (s : Stamps). IsTree (nodes_of s)) whole tree in
     let known = purpose_spelled purpose state u all follows in
-    subst IsChange (sym (made ∙ ap (brought_for purpose) (is ∙ ap nodes_of merged)))
-    (brings_spelled held changes rows are purpose known outcome)
+    subst IsChange (sym (made ∙ ap (brought_for purpose) (is ∙ ap nodes_of whole)))
+    (brings_spelled stamps changes spelled are purpose known outcome)

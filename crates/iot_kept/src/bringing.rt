@@ -5,8 +5,8 @@ ghost use Rattle.iot_slots.specs.Cells.{next};
 ghost use Rattle.iot_tree.specs.Tree.{IsTree, Nodes};
 ghost use Rattle.iot_changes.specs.Rules.{IsChange};
 ghost use Rattle.iot_changes.specs.Spelling.{change_spelling};
-ghost use Rattle.iot_stamp.specs.Stamps.{nodes_of};
-ghost use Rattle.iot_kept.specs.Bringing.{of_merge, of_note, brought, brought_for, bringing, CountsBringFault};
+ghost use Rattle.iot_stamp.specs.Stamps.{Stamps, nodes_of};
+ghost use Rattle.iot_kept.specs.Bringing.{of_merge, of_note, base_for, brought, brought_for, bringing, CountsBringFault};
 ghost use Rattle.iot_kept.specs.Changes.{CanFollow, after};
 ghost use Rattle.iot_kept.specs.Kept.{IsHeldRecord};
 ghost use Rattle.iot_kept.specs.Standing.{EachStands, EachStandsEither};
@@ -32,6 +32,8 @@ pub enum Purpose {
     Hold,
     /// For the running transaction with this number, which starts again.
     Fetch { number: u64 },
+    /// To be held in place of all that was held.
+    Walk,
 }
 
 /// Why changes are not brought.
@@ -41,7 +43,7 @@ pub enum BringFault {
     NoMemory,
     #[error("the disk failed")]
     Stopped,
-    /// What they make of the held tree is no tree.
+    /// What they make of the tree into which they are merged is no tree.
     #[error("what the changes make is no tree")]
     NoTree,
 }
@@ -80,7 +82,8 @@ impl From<NoMemory> for BringFault {
 impl<D: Disk> Kept<D> {
     ghost use Rattle.iot_kept.specs.Kept.{state_of, stamps_of, classes_in, disk_of, records_of, IsSynced};
 
-    /// Merges the changes into the held tree, and appends one record, of the whole tree, which is on the disk when this answers Ok.
+    /// Merges the changes into the held tree, or for a walk into nothing, and holds the outcome. Appends one record, of the whole tree,
+    /// which is on the disk when this answers Ok.
     /// Costs a pass over the tree and a copy of the record's bytes; with a checkpoint as much as the whole state is long.
     ///
     /// # Errors
@@ -103,12 +106,14 @@ impl<D: Disk> Kept<D> {
         ensures no_memory { IsErrOf result BringFault.NoMemory
             → EachStands (D.medium.may_leave (disk_of self.new)) (records_of self.old) (state_of self.old) }
 
-        ensures no_tree { IsErrOf result BringFault.NoTree → IsTree (nodes_of (brought (stamps_of self.old) changes)) → ⊥ }
+        ensures no_tree { IsErrOf result BringFault.NoTree
+            → IsTree (nodes_of (brought (base_for purpose (stamps_of self.old)) changes)) → ⊥ }
         ensures nothing { IsErrOf result BringFault.NoTree → self.new ≡ self.old }
-        ensures stopped { IsErrOf result BringFault.Stopped → IsTree (nodes_of (brought (stamps_of self.old) changes)) }
+        ensures stopped { IsErrOf result BringFault.Stopped
+            → IsTree (nodes_of (brought (base_for purpose (stamps_of self.old)) changes)) }
 
-        ensures tree { OnOk result (IsTree (nodes_of (brought (stamps_of self.old) changes))) }
-        ensures stamps { OnOk result (stamps_of self.new ≡ brought (stamps_of self.old) changes) }
+        ensures tree { OnOk result (IsTree (nodes_of (brought (base_for purpose (stamps_of self.old)) changes))) }
+        ensures stamps { OnOk result (stamps_of self.new ≡ brought (base_for purpose (stamps_of self.old)) changes) }
         ensures state { OnOk result (state_of self.new ≡ after (state_of self.old) (bringing purpose (stamps_of self.old) changes)) }
         ensures class { OnOk result (classes_in self.new ≡ classes_in self.old) }
         ensures records { OnOk result (records_of self.new ≡ next (records_of self.old)) }
@@ -118,8 +123,8 @@ impl<D: Disk> Kept<D> {
             (D.medium.faults (disk_of self.old)) (D.medium.faults (disk_of self.new)) }
         ensures arms { D.medium.arms (disk_of self.new) ≡ D.medium.arms (disk_of self.old) }
     {
-        let mut held = self.checkpointed.state().durable.held.copy(alloc)?;
-        merge(&mut held, &mut self.held_record, alloc, changes)?;
+        let mut held = base_for(&self.checkpointed.state().durable.held, alloc, purpose)?;
+        merge(&mut held, &mut self.held_record, alloc, changes, purpose)?;
         let change = brought_for(purpose, held.tree().copy(alloc)?);
         let text = record_for(&change, held.tree(), &mut self.held_record, alloc, purpose)?;
         self.checkpointed
@@ -130,35 +135,47 @@ impl<D: Disk> Kept<D> {
     }
 }
 
+/// What the changes are merged into.
+fn base_for(held: &Held, alloc: Global, purpose: Purpose) -> Result<Held, NoMemory>
+    ensures { IfOk result (λ base. base ≡ base_for purpose held.now) }
+{
+    match purpose {
+        Purpose::Hold | Purpose::Fetch { .. } => held.copy(alloc),
+        Purpose::Walk => Held::new(alloc),
+    }
+}
+
 /// The change that brings the tree for this purpose.
 fn brought_for(purpose: Purpose, tree: Tree) -> Change
     ensures { result ≡ brought_for purpose tree }
 {
     match purpose {
-        Purpose::Hold => Change::Held(tree),
+        Purpose::Hold | Purpose::Walk => Change::Held(tree),
         Purpose::Fetch { number } => Change::Fetched { number, tree },
     }
 }
 
-/// Merges the changes into the held tree in memory. After an error nothing has changed.
+/// Merges the changes into what is held in memory for this purpose. The record of the held tree is forgotten if another tree may come of
+/// it. After an error nothing has changed.
 fn merge(
     held: &mut Held,
     held_record: &mut Option<Text>,
     alloc: Global,
     changes: Changes,
+    purpose: Purpose,
 ) -> Result<(), MergeFault>
     requires changes { AreChanges changes }
-    requires spelled { IsHeldRecord held_record.old (nodes_of held.old) }
     ensures stamps { OnOk result (held.new ≡ brought held.old changes) }
     ensures tree { OnOk result (IsTree (nodes_of held.new)) }
-    ensures spelled { OnOk result (IsHeldRecord held_record.new (nodes_of held.new)) }
+    ensures spelled { (was : Stamps) → held.old ≡ base_for purpose was → IsHeldRecord held_record.old (nodes_of was)
+        → OnOk result (IsHeldRecord held_record.new (nodes_of held.new)) }
     ensures err { OnErr result (held.new ≡ held.old) }
     ensures same { OnErr result (held_record.new ≡ held_record.old) }
     ensures no_tree { IfErr result (λ fault. fault ≢ MergeFault.NoMemory → IsTree (nodes_of (brought held.old changes)) → ⊥) }
 {
-    let is_new = !is_nothing(&changes);
+    let stays = stays_held(&changes, purpose);
     held.merge(alloc, changes)?;
-    if is_new {
+    if !stays {
         *held_record = None;
     }
     Ok(())
@@ -179,7 +196,7 @@ fn record_for(
     ensures spelled { OnOk result (IsHeldRecord held_record.new tree.now) }
 {
     match purpose {
-        Purpose::Hold => match held_record.take() {
+        Purpose::Hold | Purpose::Walk => match held_record.take() {
             Some(text) => Ok(text),
             None => spelled(change, room_for(tree), alloc),
         },
@@ -192,8 +209,21 @@ fn keep(held_record: &mut Option<Text>, text: Text, purpose: Purpose)
     ensures { (held : Nodes) → text ≡ change_spelling (brought_for purpose held) → IsHeldRecord held_record.old held
         → IsHeldRecord held_record.new held }
 {
-    if let Purpose::Hold = purpose {
-        *held_record = Some(text);
+    match purpose {
+        Purpose::Hold | Purpose::Walk => *held_record = Some(text),
+        Purpose::Fetch { .. } => (),
+    }
+}
+
+/// Whether the changes leave what is held as it is.
+fn stays_held(changes: &Changes, purpose: Purpose) -> bool
+    ensures rows { result ≡ true → changes.now.rows ≡ [] }
+    ensures gone { result ≡ true → changes.now.gone ≡ [] }
+    ensures base { (held : Stamps) → result ≡ true → base_for purpose held ≡ held }
+{
+    match purpose {
+        Purpose::Hold | Purpose::Fetch { .. } => is_nothing(changes),
+        Purpose::Walk => false,
     }
 }
 

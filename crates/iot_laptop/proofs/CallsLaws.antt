@@ -17,9 +17,9 @@ use Rattle.iot_laptop.specs.Below.{Item, reads_of, head_of, Stamps, nodes_of}
 use Rattle.iot_laptop.specs.Below.{stamps_of, brought, nothing_held}
 use Rattle.iot_client.specs.Messages.{ReadsObjects, ReadsNoted, noted_in, objects_in, Makes, no_tree, no_changes}
 use Rattle.iot_views.specs.Rules.{IsTreeOfRows}
-use Rattle.iot_kept.specs.Bringing.{brought_for, bringing}
+use Rattle.iot_kept.specs.Bringing.{base_for, brought_for, bringing}
 use Rattle.iot_kept.specs.declared.bringing.Purpose.{Purpose}
-use Rattle.iot_kept.proofs.BringingLaws.{brought_spelled}
+use Rattle.iot_kept.proofs.BringingLaws.{base_spelled, brought_spelled}
 use Rattle.iot_kept.proofs.SyncedLaws.{synced_spelled}
 use Rattle.iot_tree.specs.declared.changes.Changes.{Changes as RowChanges}
 use Rattle.iot_laptop.specs.Laptops.{stamps_by, stamps_in, NodeStands, LaptopStands, ClientStands, live_by, records_in, records_by, disk_by}
@@ -359,15 +359,17 @@ module _ {D T : Type 0} {medium : Medium D} {laptop : Laptop D} {was now : Clien
       → ((scripts : List Declared) (first : List ℕ) (m : ClientState) → KeptLive scripts s (live_of was) first m → (t : Nodes)
       → CanFollow s (brought_for purpose t) → IsTree t → IsSpelledTree t
       → KeptLive scripts (after s (brought_for purpose t)) (live_of was) first (other t m))
-      → (t : Nodes) → SpellsTree (stamps_in laptop) reply t → Changes medium (other t) laptop new x y (done result)
+      → (t : Nodes) → SpellsTree (base_for purpose (stamps_in laptop)) reply t → Changes medium (other t) laptop new x y (done result)
   brings {purpose} {other} {reply} tied only brought_by lives stops known t spells_it scripts =
-      let spells : SpellsTree (stamps_of was) reply t =
-      subst (λ (held : Stamps). SpellsTree held reply t) (ap stamps_by up) spells_it in
+      let base : Stamps = base_for purpose (stamps_of was) in
+      let spells : SpellsTree base reply t =
+      subst (λ (held : Stamps). SpellsTree (base_for purpose held) reply t) (ap stamps_by up) spells_it in
       let is : (read : RowChanges) → objects_in reply ≡ Ok read → bringing purpose (stamps_of was) read ≡ brought_for purpose t =
       λ read of. ap (brought_for purpose) (spelled_changes read only of spells) in
       let rows : IsTreeOfRows t =
       subst IsTreeOfRows (sym spells.is)
-      (brought_spelled (stamps_of was) spells.changes (synced_spelled medium was.kept tied.synced).held spells.spelled.value
+      (brought_spelled base spells.changes
+      (base_spelled purpose (stamps_of was) (synced_spelled medium was.kept tied.synced).held) spells.spelled.value
       (subst IsTree spells.is spells.tree)) in
       alone scripts (other t) (brought_for purpose t) (live_of was)
       (record {

@@ -8,6 +8,7 @@ use Rattle.iot_laptop.specs.Below.{Stamps, Client, ClientFault, Halt, NoMemory, 
 use Rattle.iot_laptop.specs.Below.{brought, nothing_held}
 use Rattle.iot_client.specs.Calls.{Brings}
 use Rattle.iot_client.specs.Messages.{ReadsObjects}
+use Rattle.iot_kept.specs.Bringing.{base_for}
 use Rattle.iot_kept.specs.declared.bringing.Purpose.{Purpose}
 use Rattle.iot_laptop.specs.Calls.{GoesOn, TakesStamps, UnlessNoMemory, done}
 use Rattle.iot_laptop.specs.Laptops.{KeepsTrails, is_alive, stamps_by, stamps_in}
@@ -55,15 +56,16 @@ module _ {D T : Type 0} {medium : Medium D} {laptop : Laptop D} {was now : Clien
 
   -- or that took changes of a server
   pub takes_stamps : (purpose : Purpose) (reply : List ℕ) → ReadsObjects reply → OnOk answer (Brings purpose reply was now)
-      → TakesStamps reply laptop new result
+      → TakesStamps (base_for purpose (stamps_in laptop)) reply laptop new result
   takes_stamps purpose reply only brings = by result refl
     where
-      by : (r : Result T Halt) → result ≡ r → TakesStamps reply laptop new r
+      by : (r : Result T Halt) → result ≡ r → TakesStamps (base_for purpose (stamps_in laptop)) reply laptop new r
       by (Ok t) same = λ changes spells.
           let it = went t same in
           let brought_by : Brings purpose reply was now = IfOk-at_ok _ it.0 brings in
           it.1 ∙ brought_by.stamps
-          ∙ (λ i. brought (sym (ap stamps_by up) i) (same_changes reply brought_by.changes changes only brought_by.read spells i))
+          ∙ (λ i. brought (base_for purpose (sym (ap stamps_by up) i))
+          (same_changes reply brought_by.changes changes only brought_by.read spells i))
       by (Err NoMemory) same = tt
       by (Err Over) same = off_nothing new.post (down same)
 

@@ -45,17 +45,16 @@ pub use Rattle.iot_queue.specs.Queues.{head_of}
 pub use Rattle.iot_queue.specs.declared.items.Item.{Item}
 pub use Rattle.iot_queue.specs.declared.items.Resolution.{Resolution}
 pub use Rattle.iot_queue.specs.declared.items.Stage.{Stage}
-pub use Rattle.iot_client.specs.Messages.{nothing_held}
 pub use Rattle.iot_kept.specs.Bringing.{brought}
 pub use Rattle.iot_slots.specs.Cells.{next}
-pub use Rattle.iot_stamp.specs.Stamps.{Stamps, nodes_of}
+pub use Rattle.iot_stamp.specs.Stamps.{Stamps, nodes_of, nothing_held}
 pub use Rattle.iot_tree.specs.declared.changes.Changes.{Changes}
 pub use Rattle.iot_tree.specs.Tree.{Nodes, IsTree, Path, IsWhole}
 pub use Rattle.iot_tree.specs.declared.acts.Act.{Act}
 pub use Rattle.iot_tree.specs.declared.acts.Read.{Read}
 pub use Rattle.iot_tree.specs.declared.limits.TheConstants.{ACT_LIMIT}
 pub use Rattle.iot_tree.specs.declared.nodes.Node.TheVariants.{FarDir}
-pub use Rattle.iot_wire.specs.Meanings.{IsRefresh, Spells}
+pub use Rattle.iot_wire.specs.Meanings.{IsRefresh, IsWalk, Spells}
 pub use Rattle.iot_laptop.specs.declared.laptop.Laptop.{Laptop}
 pub use Rattle.iot_laptop.specs.declared.needs.Gone.{Gone}
 pub use Rattle.iot_laptop.specs.declared.seated.Seated.{Seated}

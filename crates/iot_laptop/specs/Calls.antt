@@ -7,7 +7,7 @@ use Rattle.iot_laptop.specs.Below.{reads_of, Nodes, State, Act, Read, Item, Stag
 use Rattle.iot_laptop.specs.Below.{Medium, Declared, ClientState, so_far, act_once, repair, reach, Plan, resolution_of, Acts}
 use Rattle.iot_laptop.specs.Below.{next_step, transaction_name, acts_output, stopped_line, no_text, Node, Appends, Appended, CameIf}
 use Rattle.iot_laptop.specs.Below.{Answered, StepsFrom, PostStands, UpStands, Up, Halt, NoMemory, Over, Try, name_of, SpellsVerdict, Laptop}
-use Rattle.iot_laptop.specs.Below.{Gone, Seated, Spells, brought, nothing_held}
+use Rattle.iot_laptop.specs.Below.{Gone, Seated, Spells, Stamps, brought, nothing_held}
 use Rattle.iot_tree.specs.declared.changes.Changes.{Changes as RowChanges}
 use Rattle.iot_wire.specs.declared.replies.Reply.TheVariants as replies
 use Rattle.iot_tree.specs.declared.labels.Label.{Label}
@@ -84,12 +84,12 @@ UnlessNoMemory (Ok t) P = P
 UnlessNoMemory (Err NoMemory) P = Unit {0}
 UnlessNoMemory (Err Over) P = P
 
--- the changes of the reply were merged into what it held; or it is down
-abbrev pub TakesStamps : {D T : Type 0} → (reply : List ℕ) → (old new : Laptop D) → Result T Halt → Type 0
-TakesStamps reply old new (Ok t) =
-    (changes : RowChanges) → Spells reply (replies.Objects changes) → stamps_in new ≡ brought (stamps_in old) changes
-TakesStamps reply old new (Err NoMemory) = Unit {0}
-TakesStamps reply old new (Err Over) = stamps_in new ≡ nothing_held
+-- it holds what the changes of the reply make of this tree; or it is down
+abbrev pub TakesStamps : {D T : Type 0} → (base : Stamps) → (reply : List ℕ) → (old new : Laptop D) → Result T Halt → Type 0
+TakesStamps base reply old new (Ok t) =
+    (changes : RowChanges) → Spells reply (replies.Objects changes) → stamps_in new ≡ brought base changes
+TakesStamps base reply old new (Err NoMemory) = Unit {0}
+TakesStamps base reply old new (Err Over) = stamps_in new ≡ nothing_held
 
 -- that it was done, or why not
 abbrev pub done : {T : Type 0} → Result T Halt → Result (Unit {0}) Halt

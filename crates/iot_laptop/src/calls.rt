@@ -40,13 +40,34 @@ impl<D: Disk> Laptop<D> {
             → Changes D.medium (hold t) self.old self.new out.old out.new result }
         ensures none { OnOk result ((state_in self.new).items ≡ []) }
         ensures running { OnOk result ((state_in self.new).running ≡ (state_in self.old).running) }
-        ensures stamps { TakesStamps reply.now self.old self.new result }
+        ensures stamps { TakesStamps (stamps_in self.old) reply.now self.old self.new result }
         ensures place { SamePlace self.old self.new }
         ensures disk { KeepsDisk D.medium (disk_in self.old) (disk_in self.new) }
     {
         let count = self.records();
         let answer = match &mut self.post {
             Post::Up(seated) => seated.client.take_objects(alloc, reply),
+            Post::Down(_) | Post::Between => unreachable!(),
+        };
+        self.goes_on(alloc, answer, count, out)
+    }
+
+    /// Holds what the reply to a walk brings, in place of all that it held. What runs goes on.
+    pub fn take_walk(&mut self, alloc: Global, reply: &[u8], out: &mut Text) -> Result<(), Halt>
+        requires stands { Stands D.medium self.old }
+        requires none { (state_in self.old).items ≡ [] }
+        requires brings { BringsTree nothing_held reply.now }
+        ensures does { (t : Nodes) → SpellsTree nothing_held reply.now t
+            → Changes D.medium (hold t) self.old self.new out.old out.new result }
+        ensures none { OnOk result ((state_in self.new).items ≡ []) }
+        ensures running { OnOk result ((state_in self.new).running ≡ (state_in self.old).running) }
+        ensures stamps { TakesStamps nothing_held reply.now self.old self.new result }
+        ensures place { SamePlace self.old self.new }
+        ensures disk { KeepsDisk D.medium (disk_in self.old) (disk_in self.new) }
+    {
+        let count = self.records();
+        let answer = match &mut self.post {
+            Post::Up(seated) => seated.client.take_walk(alloc, reply),
             Post::Down(_) | Post::Between => unreachable!(),
         };
         self.goes_on(alloc, answer, count, out)
@@ -66,7 +87,7 @@ impl<D: Disk> Laptop<D> {
         requires brings { BringsTree (stamps_in self.old) reply.now }
         ensures does { (t : Nodes) → SpellsTree (stamps_in self.old) reply.now t
             → Changes D.medium (fetch number t) self.old self.new out.old out.new result }
-        ensures stamps { TakesStamps reply.now self.old self.new result }
+        ensures stamps { TakesStamps (stamps_in self.old) reply.now self.old self.new result }
         ensures place { SamePlace self.old self.new }
         ensures disk { KeepsDisk D.medium (disk_in self.old) (disk_in self.new) }
     {

@@ -1,13 +1,14 @@
 //! A client that was declared, by its name and its place, and its link with the server.
 ghost use Rattle.std.specs.Prelude.{◌≡◌, ◌≤◌, ◌*◌, ◌&&◌, not, nat_lt, true, [], List, None, Some, IfOk, IfSome, length, map, option_map};
 ghost use Rattle.std.specs.Option.{option_copied};
-ghost use Rattle.iot_laptop.specs.Below.{IsRefresh, may_end_if_any, is_over_if_any, live_numbered, Declared, IsEmpty, counts_on};
+ghost use Rattle.iot_laptop.specs.Below.{IsRefresh, IsWalk, may_end_if_any, is_over_if_any, live_numbered, Declared, IsEmpty, counts_on};
 ghost use Rattle.iot_client.specs.declared.fault.ClientFault.TheVariants.{NoMemory as no_memory};
 ghost use Rattle.iot_machine.specs.Clients.{most_running};
 ghost use Rattle.iot_kept.specs.Memory.{transaction, transactions, classes_of};
 ghost use Rattle.iot_kept.specs.States.{numbered};
 ghost use Rattle.iot_machine.specs.Transactions.{has_any};
 ghost use Rattle.iot_laptop.specs.Calls.{meant_in};
+ghost use Rattle.iot_tree.specs.Profiles.{IsProfile, IsWalkLimit};
 
 use crate::seated::Seated;
 use iot_client::{Client, ClientFault, Running};
@@ -16,7 +17,7 @@ use iot_kept::RUN_LIMIT;
 use iot_link::Link;
 use iot_node::{Fallen, Post, Transaction};
 use iot_text::{Name, NoMemory};
-use iot_tree::{ACT_LIMIT, Tree, Want};
+use iot_tree::{ACT_LIMIT, Profile, Tree, Want};
 use std::alloc::Global;
 
 /// A client, its name, its place in the order of declaration, and its link.
@@ -190,6 +191,14 @@ impl<D: Disk> Laptop<D> {
         self.client().view()
     }
 
+    /// The held tree.
+    pub fn held(&self) -> &Tree
+        requires { Stands D.medium self.now }
+        ensures { result.now ≡ (state_in self.now).held }
+    {
+        self.client().held()
+    }
+
     /// How many transactions wait, three times: how often one drain syncs at most.
     pub fn most_syncs(&self) -> Result<u64, NoMemory>
         requires { Stands D.medium self.now }
@@ -229,6 +238,26 @@ impl<D: Disk> Laptop<D> {
         ensures { IfOk result (λ request. IsRefresh self.now.place (stamps_in self.now) want.now request.items) }
     {
         match self.client().ask(alloc, want) {
+            Ok(request) => Ok(request),
+            Err(fault) => Err(memory(fault)),
+        }
+    }
+
+    /// Asks for what the profile wishes, as much as fits into the limit, in bytes.
+    pub fn ask_walk(
+        &self,
+        alloc: Global,
+        profile: &Profile,
+        limit: u64,
+    ) -> Result<Vec<u8>, NoMemory>
+        requires stands { Stands D.medium self.now }
+        requires place { self.now.place ≤ 7 }
+        requires none { (state_in self.now).items ≡ [] }
+        requires profile { IsProfile profile.now }
+        requires limit { IsWalkLimit limit }
+        ensures { IfOk result (λ request. IsWalk self.now.place profile.now limit request.items) }
+    {
+        match self.client().ask_walk(alloc, profile, limit) {
             Ok(request) => Ok(request),
             Err(fault) => Err(memory(fault)),
         }

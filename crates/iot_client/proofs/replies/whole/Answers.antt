@@ -2,7 +2,8 @@ use Rattle.std.proofs.Common.{◌≡◌, true, false, Err, sym, subst, ◌∙◌
 use Rattle.iot_codec.specs.Laws.Sorted.{sorted_table}
 use Rattle.iot_tree.specs.Tree.{IsTree, IsWhole}
 use Rattle.iot_held.specs.declared.merging.MergeFault.TheVariants.{NoMemory, NoTree}
-use Rattle.iot_client.specs.Messages.{MakesWhole, ReadsAs, is_whole, nothing_held}
+use Rattle.iot_stamp.specs.Stamps.{nothing_held}
+use Rattle.iot_client.specs.Messages.{MakesWhole, ReadsAs, is_whole}
 use Rattle.iot_client.specs.declared.fault.ClientFault.{ClientFault}
 use Rattle.iot_client.proofs.RepliesLaws.{makes_on}
 use Rattle.iot_client.proofs.WholeLaws.{makes_no_tree, makes_of, makes_part, makes_whole}

@@ -2,6 +2,7 @@ use Rattle.std.proofs.Common.{Err, sym, ap, subst}
 use Rattle.iot_kept.specs.declared.kept.Kept.{Kept}
 use Rattle.iot_kept.proofs.BringingLaws.{brings_spelled, follows_with, purpose_spelled}
 use Rattle.iot_kept.proofs.SyncedLaws.{synced_spelled}
+use Rattle.iot_kept.specs.Bringing.{base_for}
 use Rattle.iot_client.specs.Calls.{EndsBy}
 use Rattle.iot_client.specs.Messages.{MakesTree, made, no_tree}
 use Rattle.iot_client.specs.Ties.{state_of, stamps_of}
@@ -42,7 +43,7 @@ pub returns-in-Err-NoTree-clause-ends : goal.returns-in-Err-NoTree-clause-ends
 returns-in-Err-NoTree-clause-ends g c =
     let old = c.args.self.now in
     subst
-    (λ (fault : ClientFault). EndsBy {T = Unit {0}} (MakesTree (stamps_of old) c.args.reply.now) old
+    (λ (fault : ClientFault). EndsBy {T = Unit {0}} (MakesTree (base_for c.args.purpose (stamps_of old)) c.args.reply.now) old
     (record old { kept = c.bring.new.self })
     (Err fault))
     (sym c.bad_at_its_end.ensures) (

@@ -1,5 +1,6 @@
 use Rattle.std.proofs.Common.{◌∙◌, ap}
 use Rattle.iot_stamp.specs.Stamps.{nodes_of}
+use Rattle.iot_kept.specs.Bringing.{base_for}
 use Rattle.iot_kept.specs.Kept.{state_of, stamps_of}
 use Rattle.iot_kept.specs.Memory.{memory_state}
 use Rattle.iot_kept.specs.declared.memory.Memory.{Memory}
@@ -10,18 +11,18 @@ use Rattle.iot_kept.proofs.kept.Kept.bring.Goals as goal
 
 pub record_for-requires-clause-spells : goal.record_for-requires-clause-spells
 record_for-requires-clause-spells g c =
-    change_spelled (state_of c.args.self.now) c.in_ok-held.held (stamps_of c.args.self.now) c.merge.new.held c.args.changes c.args.purpose
+    change_spelled (state_of c.args.self.now) (stamps_of c.args.self.now) c.in_ok-held.held c.merge.new.held c.args.changes c.args.purpose
     c.in_ok-copy.field-0 (state_of c.args.self.now).held c.brought_for-change.result
-    (c.in_ok-held.ensures ∙ ap (λ (m : Memory). m.durable.held) c.state.ensures)
+    (c.in_ok-held.ensures ∙ ap (λ (m : Memory). base_for c.args.purpose m.durable.held) c.state.ensures)
     (synced_spelled g.D.Disk.medium c.args.self.now c.requires.synced) c.requires.follows
     (synced_spelled g.D.Disk.medium c.args.self.now c.requires.synced).held c.requires.changes c.in_ok-merge.ensures.stamps
     c.in_ok-merge.ensures.tree (c.in_ok-copy.ensures ∙ c.tree.ensures.value) c.brought_for-change.ensures
 
 pub note_spelled-requires-clause-change : goal.note_spelled-requires-clause-change
 note_spelled-requires-clause-change g c =
-    change_spelled (state_of c.args.self.now) c.in_ok-held.held (stamps_of c.args.self.now) c.merge.new.held c.args.changes c.args.purpose
+    change_spelled (state_of c.args.self.now) (stamps_of c.args.self.now) c.in_ok-held.held c.merge.new.held c.args.changes c.args.purpose
     c.in_ok-copy.field-0 (state_of c.args.self.now).held c.brought_for-change.result
-    (c.in_ok-held.ensures ∙ ap (λ (m : Memory). m.durable.held) c.state.ensures)
+    (c.in_ok-held.ensures ∙ ap (λ (m : Memory). base_for c.args.purpose m.durable.held) c.state.ensures)
     (synced_spelled g.D.Disk.medium c.args.self.now c.requires.synced) c.requires.follows
     (synced_spelled g.D.Disk.medium c.args.self.now c.requires.synced).held c.requires.changes c.in_ok-merge.ensures.stamps
     c.in_ok-merge.ensures.tree (c.in_ok-copy.ensures ∙ c.tree.ensures.value) c.brought_for-change.ensures
@@ -29,9 +30,9 @@ note_spelled-requires-clause-change g c =
 pub note_spelled-requires-clause-spelled : goal.note_spelled-requires-clause-spelled
 note_spelled-requires-clause-spelled g c =
     let has =
-    change_spelled (state_of c.args.self.now) c.in_ok-held.held (stamps_of c.args.self.now) c.merge.new.held c.args.changes c.args.purpose
+    change_spelled (state_of c.args.self.now) (stamps_of c.args.self.now) c.in_ok-held.held c.merge.new.held c.args.changes c.args.purpose
     c.in_ok-copy.field-0 (state_of c.args.self.now).held c.brought_for-change.result
-    (c.in_ok-held.ensures ∙ ap (λ (m : Memory). m.durable.held) c.state.ensures)
+    (c.in_ok-held.ensures ∙ ap (λ (m : Memory). base_for c.args.purpose m.durable.held) c.state.ensures)
     (synced_spelled g.D.Disk.medium c.args.self.now c.requires.synced) c.requires.follows
     (synced_spelled g.D.Disk.medium c.args.self.now c.requires.synced).held c.requires.changes c.in_ok-merge.ensures.stamps
     c.in_ok-merge.ensures.tree (c.in_ok-copy.ensures ∙ c.tree.ensures.value) c.brought_for-change.ensures in
