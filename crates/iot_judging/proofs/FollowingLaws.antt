@@ -12,6 +12,9 @@ use Rattle.iot_stamp.proofs.MappedLaws.{entries_of_mapped}
 use Rattle.iot_stamp.proofs.StampsLaws.{nodes_with}
 use Rattle.iot_machine.specs.Clients.{snapshot}
 use Rattle.iot_machine.specs.Machine.{add_commit, Commit}
+use Rattle.iot_hoard.specs.Picking.{picked}
+use Rattle.iot_judging.specs.Errands.{paths_for}
+use Rattle.iot_machine.specs.Serving.{Errand, Refresh, Walk, lent}
 use Rattle.iot_machine.specs.Serving.{Certifies, holds, conflicts, Commits, committed, judged, server_name, Submission, Verdict}
 use Rattle.iot_machine.specs.Stops.{Appends}
 use Rattle.iot_stamp.specs.Trails.{KeepsTrail}
@@ -108,8 +111,15 @@ known_is t p =
         one_more (is_known e.1.0) e (paths_where (λ row. is_known row.1) (map (λ (e : Entry). (e.0, e.1.0)) es)) (filter_map known_stamp es)
         (by es)
 
-pub cut_is : (held server : Stamps) (want : Want)
+cut_is : (held server : Stamps) (want : Want)
     → snapshot (nodes_of held) want (nodes_of server) ≡ nodes_of (pruned server (asked server (known_with_stamps held) want))
 cut_is held server want =
     (λ i. prune (nodes_of server) (widen (λ p. known_is held p i) (nodes_of server) want))
     ∙ sym (nodes_with (stamp_at server) (prune (nodes_of server) (asked server (known_with_stamps held) want)))
+
+-- what a client gets is the server's tree, cut down to the paths of its errand
+pub lent_is : (held server : Stamps) (errand : Errand)
+    → lent (nodes_of held) errand (nodes_of server) ≡ nodes_of (pruned server (paths_for server held errand))
+lent_is held server (Refresh want) = cut_is held server want
+lent_is held server (Walk profile limit) =
+    sym (nodes_with (stamp_at server) (prune (nodes_of server) (has (picked (nodes_of server) profile limit))))

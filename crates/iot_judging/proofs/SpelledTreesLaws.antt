@@ -4,10 +4,9 @@ use Rattle.std.proofs.lemmas.Option.{same_Some, none-some}
 use Rattle.std.specs.FinMap.{get, empty, get-empty}
 use Rattle.iot_text.specs.Paths.{path_cmp}
 use Rattle.iot_tree.specs.Tree.{Path, Nodes, root_alone}
-use Rattle.iot_tree.specs.Snapshots.{seen, is_reached, prune, has, known, widen}
+use Rattle.iot_tree.specs.Snapshots.{seen, is_reached, prune}
 use Rattle.iot_tree.specs.declared.nodes.Node.{Node}
 use Rattle.iot_tree.specs.declared.nodes.Node.TheVariants.{Dir, File, FarDir, FarFile}
-use Rattle.iot_tree.specs.declared.want.Want.{Want}
 use Rattle.iot_tree.proofs.EachLaws.{each_inserted}
 use Rattle.iot_tree.proofs.PruneLaws.{get_pruned}
 use Rattle.iot_lang.specs.Code.{Code}
@@ -15,7 +14,6 @@ use Rattle.iot_lang.specs.Scripts.{IsScript}
 use Rattle.iot_exec.specs.Runs.{run}
 use Rattle.iot_limits.specs.Spelled.{IsSpelledNode, IsSpelledRow, IsSpelledTree}
 use Rattle.iot_limits.proofs.SpelledLaws.{run_is_spelled, no_files_are_spelled}
-use Rattle.iot_machine.specs.Clients.{snapshot}
 
 -- ---- trees that are cut down
 
@@ -39,10 +37,6 @@ pruned_spelled s k tree = record {
   each = λ path node is. left_spelled path (is_reached k path) (k path) (get s path) (tree.each path) node
       (sym (get_pruned s k path) ∙ is);
 }
-
-module _ (held : Nodes) (want : Want) (server : Nodes) where
-  pub snapshot_spelled : IsSpelledTree server → IsSpelledTree (snapshot held want server)
-  snapshot_spelled tree = pruned_spelled server (widen (has (known held)) server want) tree
 
 -- ---- a root alone
 

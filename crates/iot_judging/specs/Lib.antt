@@ -2,3 +2,4 @@ pub mod Entries
 pub mod Told
 pub mod Verdicts
 pub mod Lists
+pub mod Errands

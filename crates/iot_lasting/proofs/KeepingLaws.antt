@@ -1,7 +1,7 @@
 -- The machine's calls keep what the server's list begins with.
 use Rattle.std.proofs.Common.{ℕ, ◌*◌, Bool, true, false, List, [], ◌∷◌, Option, Some, None, codes, sym, subst}
 use Rattle.iot_tree.specs.Tree.{Nodes, Path}
-use Rattle.iot_tree.specs.declared.want.Want.{Want}
+use Rattle.iot_tree.specs.Profiles.{Profile}
 use Rattle.iot_tree.specs.declared.want.Want.TheVariants as wanted
 use Rattle.iot_event.specs.declared.event.Task.{Task}
 use Rattle.iot_event.specs.declared.event.Task.TheVariants as tasks
@@ -14,7 +14,8 @@ use Rattle.iot_machine.specs.Machine.{Machine, Commit, Client, Pair, its_server,
 use Rattle.iot_machine.specs.Nodes.{Node}
 use Rattle.iot_machine.specs.Options as options
 use Rattle.iot_machine.specs.Options.{OnConflict}
-use Rattle.iot_machine.specs.Serving.{Submission, Verdict, Settled, Conflict, Lends, Judges, server_name, kept_text}
+use Rattle.iot_machine.specs.Serving.{Submission, Verdict, Settled, Conflict, Errand, Lends, Judges, server_name, kept_text}
+use Rattle.iot_machine.specs.Serving as errands
 use Rattle.iot_machine.specs.Transactions as transactions
 use Rattle.iot_machine.specs.Transactions.{Notes, unless_stopped, Exchange, Refuses, IfIdle, IfRoom, IfNonePends, if_runs, IfRuns}
 use Rattle.iot_machine.specs.Transactions.{Holds, took, Takes, Starts, starts_if, Begins, step_by, step_of, Steps, yield_if, Yields}
@@ -22,7 +23,7 @@ use Rattle.iot_machine.specs.Transactions.{Synced, Moved, Stays, Unanswered}
 use Rattle.iot_machine.specs.Transactions.{NotesAloud, conflicted, told, resolved_on, resolves, Resolves, sync_at, sync_head, Syncs}
 use Rattle.iot_machine.specs.Transactions.{moves, sync_if, SyncsAll, is_manual, if_manual, IfManual, Ended, waits_unless, syncs_or_waits}
 use Rattle.iot_machine.specs.Transactions.{joins, Compared, Same, Differs, Compares, same, parts, ends_by, certifies, end_by, Ends}
-use Rattle.iot_machine.specs.Events.{Declares, Hoards, Refreshes, BeginsAloud, StepsAloud, run_steps, runs_through, Runs, Drains, Repairs}
+use Rattle.iot_machine.specs.Events.{Walks, Declares, Hoards, Refreshes, BeginsAloud, StepsAloud, run_steps, runs_through, Runs, Drains, Repairs}
 use Rattle.iot_machine.specs.Events.{Discards, chosen, task_part, says_reads, ReadsOf, IfUp, OfClient, counts_anew, RestartsServer}
 use Rattle.iot_machine.proofs.KeepsLaws.{Keeps, Stays as KeepsOn, IfGoes, keeps_gets, keeps_does, keeps_tells, stays_says, keeps_then}
 use Rattle.iot_machine.proofs.KeepsLaws.{stays_then, asks_then, keeps_either, stays_goes_on, keeps_goes, keeps_repeats, keeps_whole}
@@ -65,8 +66,8 @@ module _ (b : Node (List Commit)) where
       served : Keeps (Reached (λ p. Lasts b p.server)) (At its_server request) (λ _. Kept)
       served = record { at = λ m n text a here step. rw step.is (keeps.at m.server step.inner text a here step.step) }
 
-  lends : (held : Nodes) (want : Want) → KeepsOn Kept (Exchange (Lends held want))
-  lends held want = exchanges (keeps_gets (λ node here. here.0))
+  lends : (held : Nodes) (errand : Errand) → KeepsOn Kept (Exchange (Lends held errand))
+  lends held errand = exchanges (keeps_gets (λ node here. here.0))
 
   pub judges : (it : Submission) → KeepsOn Kept (Exchange (Judges it))
   judges it = exchanges (judges_last b it)
@@ -99,15 +100,15 @@ module _ (b : Node (List Commit)) where
 
   -- ---- objects
 
-  brings_and_holds : (change : Nodes → ClientState → ClientState) (want : Want) → Keeping (Holds change want)
-  brings_and_holds change want = stays_then (asks_then (λ held. lends held want)) by_answer
+  brings_and_holds : (change : Nodes → ClientState → ClientState) (errand : Errand) → Keeping (Holds change errand)
+  brings_and_holds change errand = stays_then (asks_then (λ held. lends held errand)) by_answer
     where
       by_answer : (answer : Option Nodes) → Keeping (transactions.holds change answer)
       by_answer None = answers (Some false)
       by_answer (Some t) = keeps_goes (notes _) (λ _. answers (Some true))
 
-  takes : (want : Want) → Keeping (Takes want)
-  takes want = if_idle (if_none_pends (keeps_goes (brings_and_holds _ want) by_came))
+  takes : (errand : Errand) → Keeping (Takes errand)
+  takes errand = if_idle (if_none_pends (keeps_goes (brings_and_holds _ errand) by_came))
     where
       by_came : (came : Bool) → Keeping (took came)
       by_came true = answers (Some tt)
@@ -123,7 +124,7 @@ module _ (b : Node (List Commit)) where
 
       by_pending : (pends : Bool) → Keeping (starts_if script option pends)
       by_pending true = starts false
-      by_pending false = keeps_goes (brings_and_holds _ wanted.Nothing) starts
+      by_pending false = keeps_goes (brings_and_holds _ (errands.Refresh wanted.Nothing)) starts
 
   yields : (number : ℕ) → KeepsOn Kept (Yields number)
   yields number = keeps_does (λ m here. by_pending (transactions.pends m) m here)
@@ -139,7 +140,7 @@ module _ (b : Node (List Commit)) where
       by_next AtEnd = answers (Some false)
       by_next AtLimit = answers (Some false)
       by_next Acts = keeps_goes (notes _) (λ _. answers (Some true))
-      by_next (Fetches path) = keeps_goes (brings_and_holds _ (wanted.Path path)) (λ came. keeps_either tells (answers (Some _)) loud)
+      by_next (Fetches path) = keeps_goes (brings_and_holds _ (errands.Refresh (wanted.Path path))) (λ came. keeps_either tells (answers (Some _)) loud)
 
       by_running : (running : Option Running) → Keeping (step_of number loud running)
       by_running None = answers (Some false)
@@ -173,7 +174,7 @@ module _ (b : Node (List Commit)) where
 
       by_plan : (name : List ℕ) (plan : Option Plan) → Keeping (resolves name plan)
       by_plan name None = answers (Some Unanswered)
-      by_plan name (Some plan) = stays_then (lends new_client.held (wanted.Below [])) (by_answer name plan)
+      by_plan name (Some plan) = stays_then (lends new_client.held (errands.Refresh (wanted.Below []))) (by_answer name plan)
 
   pub syncs : Keeping Syncs
   syncs = asks_then by_items
@@ -233,10 +234,13 @@ module _ (b : Node (List Commit)) where
       by_next it (Fetches path) = refuses (codes "not at end")
 
   pub hoards : (path : Path) → Keeping (Hoards path)
-  hoards path = keeps_goes (takes (wanted.Below path)) (λ _. tells)
+  hoards path = keeps_goes (takes (errands.Refresh (wanted.Below path))) (λ _. tells)
 
   pub refreshes : Keeping Refreshes
-  refreshes = keeps_goes (takes wanted.Nothing) (λ _. tells)
+  refreshes = keeps_goes (takes (errands.Refresh wanted.Nothing)) (λ _. tells)
+
+  pub walks : (profile : Profile) (limit : ℕ) → Keeping (Walks profile limit)
+  walks profile limit = keeps_goes (takes (errands.Walk profile limit)) (λ _. tells)
 
   pub begins_aloud : (script : Declared) (option : OnConflict Declared) → Keeping (BeginsAloud script option)
   begins_aloud script option = keeps_goes (begins script option) (λ _. tells)
@@ -267,10 +271,11 @@ module _ (b : Node (List Commit)) where
       by_item None = refuses (codes "nothing")
       by_item (Some item) = tells
 
-  pub does_task : (scripts : List Declared) (task : Task ℕ) → Keeping (task_part scripts task)
+  pub does_task : (scripts : List Declared) (task : Task ℕ Profile) → Keeping (task_part scripts task)
   does_task scripts (tasks.Run script option) = runs_it (script_at scripts script) (chosen scripts option)
   does_task scripts (tasks.Hoard path) = hoards path
   does_task scripts tasks.Refresh = refreshes
+  does_task scripts (tasks.Walk profile limit) = walks profile limit
   does_task scripts (tasks.Begin script option) = begins_aloud (script_at scripts script) (chosen scripts option)
   does_task scripts (tasks.Step count transaction) = steps_aloud count transaction
   does_task scripts (tasks.End transaction) = ends transaction

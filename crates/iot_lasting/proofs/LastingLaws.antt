@@ -17,13 +17,14 @@ use Rattle.iot_machine.specs.Transcript.{Opening, InTurn}
 use Rattle.iot_machine.proofs.KeepsLaws.{Keeps, keeps_does, stays_says, keeps_then, stays_then, asks_then, keeps_either}
 use Rattle.iot_machine.proofs.PossiblyLaws.{possibly_as}
 use Rattle.iot_lasting.specs.Lasting.{IsGrowing, EventKeepsCommits, TranscriptsSplit, TranscriptsGrow, CommitsLast, CommitsKeepTheirNumbers}
+use Rattle.iot_tree.specs.Profiles.{Profile}
 use Rattle.iot_lasting.proofs.FrontLaws.{stands_on, possibly_front, lasts_itself, lasts_same, crashes_last, opens_last}
 use Rattle.iot_lasting.proofs.KeepingLaws.{KeptIn, KeepingIn, does_task, of_client, alone, at_server, restarts_server, declares}
 
 -- ---- the events
 
 module _ (b : Node (List Commit)) where
-  client_keeping : (scripts : List Declared) (c : ℕ) (what : ClientEvent ℕ) → KeepingIn b (client_part scripts c what)
+  client_keeping : (scripts : List Declared) (c : ℕ) (what : ClientEvent ℕ Profile) → KeepingIn b (client_part scripts c what)
   client_keeping scripts c (client_events.Node what) = alone b
   client_keeping scripts c (client_events.Link what) = alone b
   client_keeping scripts c (client_events.Task what) = of_client b (does_task b scripts what)
@@ -37,6 +38,7 @@ module _ (b : Node (List Commit)) where
   event_keeping : (event : Event) → KeepingIn b (event_part event)
   event_keeping (events.Client name) = declares b name
   event_keeping (events.Script name code) = keeps_does (λ m here. here)
+  event_keeping (events.Profile name profile) = stays_says
   event_keeping (events.At c what) = asks_then (λ scripts. client_keeping scripts c what)
   event_keeping (events.Server what) = server_keeping what
   event_keeping events.Log = asks_then (keeps_either stays_says stays_says)

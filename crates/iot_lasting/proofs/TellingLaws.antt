@@ -5,7 +5,7 @@ use Rattle.std.proofs.lemmas.List.{append-nil}
 use Rattle.iot_tree.specs.Tree.{Nodes, Path}
 use Rattle.iot_tree.specs.declared.acts.Act.{Act}
 use Rattle.iot_tree.specs.declared.questions.Question.{Question}
-use Rattle.iot_tree.specs.declared.want.Want.{Want}
+use Rattle.iot_tree.specs.Profiles.{Profile}
 use Rattle.iot_tree.specs.declared.want.Want.TheVariants as wanted
 use Rattle.iot_event.specs.declared.event.LinkEvent.{LinkEvent}
 use Rattle.iot_event.specs.declared.event.LinkEvent.TheVariants as links
@@ -25,11 +25,12 @@ use Rattle.iot_machine.specs.Machine.{Commit, Client, Pair, its_client, its_serv
 use Rattle.iot_machine.specs.Nodes.{Node, changed}
 use Rattle.iot_machine.specs.Options as options
 use Rattle.iot_machine.specs.Options.{OnConflict}
-use Rattle.iot_machine.specs.Serving.{Submission, Verdict, Settled, Conflict, Lends, Judges, judged, Certifies, holds, conflicts, Commits}
+use Rattle.iot_machine.specs.Serving.{Submission, Verdict, Settled, Conflict, Errand, Lends, Judges, judged, Certifies, holds, conflicts, Commits}
+use Rattle.iot_machine.specs.Serving as errands
 use Rattle.iot_machine.specs.Serving.{committed, commit_text, server_name}
 use Rattle.iot_machine.specs.Stops.{Appends, OpensNode, ComesBack, Crashes, ArmsDisk}
 use Rattle.iot_machine.specs.Texts.{line, transaction_name, stopped_line, lose_line, cut_line, fetch_line, settled_line, conflict_line}
-use Rattle.iot_machine.specs.Texts.{again_line, resolve_line, pending_line, hoard_line, refresh_line, begin_line, step_line, repair_line}
+use Rattle.iot_machine.specs.Texts.{again_line, resolve_line, pending_line, hoard_line, refresh_line, walk_line, begin_line, step_line, repair_line}
 use Rattle.iot_machine.specs.Texts.{reads_text, acts_output}
 use Rattle.iot_machine.specs.Transactions as transactions
 use Rattle.iot_machine.specs.Transactions.{Writes, Notes, unless_stopped, counted, Handles, received, exchange_by, Exchange}
@@ -40,7 +41,7 @@ use Rattle.iot_machine.specs.Transactions.{NotesAloud, conflicted, told, resolve
 use Rattle.iot_machine.specs.Transactions.{moves, sync_if, SyncsAll, is_manual, if_manual, IfManual, Ended, waits_unless, syncs_or_waits}
 use Rattle.iot_machine.specs.Transactions.{waits, joins, ended_of, Compared, Same, Differs, Compares, ends_by, certifies, end_by, Ends}
 use Rattle.iot_machine.specs.Transactions.{item_name, next_of}
-use Rattle.iot_machine.specs.Events.{Hoards, Refreshes, said_of, BeginsAloud, place_text, StepsAloud, run_steps, runs_through, Runs, Drains}
+use Rattle.iot_machine.specs.Events.{Hoards, Refreshes, Walks, said_of, BeginsAloud, place_text, StepsAloud, run_steps, runs_through, Runs, Drains}
 use Rattle.iot_machine.specs.Events.{Repairs, Discards, running_in, Queues, chosen, task_part, says_reads, ReadsOf, IfUp, FindsLongest}
 use Rattle.iot_machine.specs.Events.{cuts_off, CutsOff, no_text, comes_back, RestartsClient, link_part, node_part}
 use Rattle.iot_machine.specs.Recorded.{queue_kept}
@@ -366,8 +367,8 @@ module _ (rows : List Row) (c : ℕ) where
       by_passage passages.ReplyLost = then_told handled (λ _. breaks)
       by_passage passages.Both = then_told handled receives
 
-  lends : (held : Nodes) (want : Want) → TellingWith (Exchange (Lends held want))
-  lends held want = exchanges (λ pair at. gets_told (λ node here. (refl, tt)))
+  lends : (held : Nodes) (errand : Errand) → TellingWith (Exchange (Lends held errand))
+  lends held errand = exchanges (λ pair at. gets_told (λ node here. (refl, tt)))
 
   -- a transaction of this client
   record IsOwn (it : Submission) : Type 0 where
@@ -416,15 +417,15 @@ module _ (rows : List Row) (c : ℕ) where
 
   -- ---- objects
 
-  brings_and_holds : (change : Nodes → ClientState → ClientState) (want : Want) → TellingWith (Holds change want)
-  brings_and_holds change want = then_told (asks_then (λ held. lends held want)) by_answer
+  brings_and_holds : (change : Nodes → ClientState → ClientState) (errand : Errand) → TellingWith (Holds change errand)
+  brings_and_holds change errand = then_told (asks_then (λ held. lends held errand)) by_answer
     where
       by_answer : (answer : Option Nodes) → TellingWith (transactions.holds change answer)
       by_answer None = answers (Some false)
       by_answer (Some t) = goes (notes _) (λ _. answers (Some true))
 
-  takes : (want : Want) → TellingWith (Takes want)
-  takes want = if_idle (if_none_pends (goes (brings_and_holds _ want) by_came))
+  takes : (errand : Errand) → TellingWith (Takes errand)
+  takes errand = if_idle (if_none_pends (goes (brings_and_holds _ errand) by_came))
     where
       by_came : (came : Bool) → TellingWith (took came)
       by_came true = answers (Some tt)
@@ -440,7 +441,7 @@ module _ (rows : List Row) (c : ℕ) where
 
       by_pending : (pends : Bool) → TellingWith (starts_if script option pends)
       by_pending true = starts false
-      by_pending false = goes (brings_and_holds _ wanted.Nothing) starts
+      by_pending false = goes (brings_and_holds _ (errands.Refresh wanted.Nothing)) starts
 
   yields : (number : ℕ) → TellingWith (Yields number)
   yields number = does_told (λ pair at. by_pending (transactions.pends pair) pair at)
@@ -460,7 +461,7 @@ module _ (rows : List Row) (c : ℕ) where
       by_next AtEnd = answers (Some false)
       by_next AtLimit = answers (Some false)
       by_next Acts = goes (notes _) (λ _. answers (Some true))
-      by_next (Fetches path) = goes (brings_and_holds _ (wanted.Path path))
+      by_next (Fetches path) = goes (brings_and_holds _ (errands.Refresh (wanted.Path path)))
           (λ came. either_told (tells (says_fetch path (not came))) (answers (Some _)) loud)
 
       by_running : (running : Option Running) → TellingWith (step_of number loud running)
@@ -523,7 +524,7 @@ module _ (rows : List Row) (c : ℕ) where
 
       by_plan : (name : List ℕ) → IsOwnName name → (plan : Option Plan) → TellingWith (resolves name plan)
       by_plan name own None = answers (Some Unanswered)
-      by_plan name own (Some plan) = then_told (lends new_client.held (wanted.Below [])) (by_answer name own plan)
+      by_plan name own (Some plan) = then_told (lends new_client.held (errands.Refresh (wanted.Below []))) (by_answer name own plan)
 
   syncs : TellingWith Syncs
   syncs = asks_then by_items
@@ -613,12 +614,17 @@ module _ (rows : List Row) (c : ℕ) where
       by_next it (Fetches path) = refuses (codes "not at end") (among 8 refl)
 
   hoards : (path : Path) → TellingWith (Hoards path)
-  hoards path = goes (takes (wanted.Below path)) (λ _. tells (λ pair at. told_other (pair_book pair) (hoard_line pair.client.name path)
+  hoards path = goes (takes (errands.Refresh (wanted.Below path))) (λ _. tells (λ pair at. told_other (pair_book pair) (hoard_line pair.client.name path)
       (forms.hoard pair.client.name path (node_here pair at) refl)))
 
   refreshes : TellingWith Refreshes
-  refreshes = goes (takes wanted.Nothing) (λ _. tells (λ pair at. told_other (pair_book pair) (refresh_line pair.client.name)
+  refreshes = goes (takes (errands.Refresh wanted.Nothing)) (λ _. tells (λ pair at. told_other (pair_book pair) (refresh_line pair.client.name)
       (forms.of_node (codes "refresh ") pair.client.name (among 5 refl) (node_here pair at) refl)))
+
+  walks : (profile : Profile) (limit : ℕ) → TellingWith (Walks profile limit)
+  walks profile limit = goes (takes (errands.Walk profile limit)) (λ _. tells (λ pair at.
+      told_other (pair_book pair) (walk_line pair.client.name (kept pair).held)
+      (forms.walk pair.client.name (kept pair).held (node_here pair at) refl)))
 
   -- of the transaction with this number, if it runs
   says_running : (number : ℕ) (text : Pair → Running → List ℕ) → ((it : Running) → Says (λ pair. text pair it))
@@ -674,10 +680,11 @@ module _ (rows : List Row) (c : ℕ) where
       by_item None = refuses (codes "nothing") (among 5 refl)
       by_item (Some item) = tells (λ pair at. told_other (pair_book pair) (reads_text item) (forms.reads item refl))
 
-  does_task : (scripts : List Declared) (task : Task ℕ) → TellingWith (task_part scripts task)
+  does_task : (scripts : List Declared) (task : Task ℕ Profile) → TellingWith (task_part scripts task)
   does_task scripts (tasks.Run script option) = runs_it (script_at scripts script) (chosen scripts option)
   does_task scripts (tasks.Hoard path) = hoards path
   does_task scripts tasks.Refresh = refreshes
+  does_task scripts (tasks.Walk profile limit) = walks profile limit
   does_task scripts (tasks.Begin script option) = begins_aloud (script_at scripts script) (chosen scripts option)
   does_task scripts (tasks.Step count transaction) = steps_aloud count transaction
   does_task scripts (tasks.End transaction) = ends transaction
@@ -688,6 +695,6 @@ module _ (rows : List Row) (c : ℕ) where
   does_task scripts tasks.Queue = queues
   does_task scripts (tasks.Reads item) = reads_of item
 
-  pub if_up : (scripts : List Declared) (task : Task ℕ) → TellingWith (IfUp (task_part scripts task))
+  pub if_up : (scripts : List Declared) (task : Task ℕ Profile) → TellingWith (IfUp (task_part scripts task))
   if_up scripts task = asks_then (either_told (whole_told (does_task scripts task))
       (says_told (one_word (codes "down") (among 1 refl))))

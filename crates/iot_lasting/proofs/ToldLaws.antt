@@ -16,6 +16,7 @@ use Rattle.iot_machine.specs.Machine.{Machine, Client, Commit, Pair, handed, ser
 use Rattle.iot_machine.specs.Machine.{pair_at, tree_after, add_commit}
 use Rattle.iot_machine.specs.Nodes.{Node}
 use Rattle.iot_machine.specs.Nodes as nodes_of
+use Rattle.iot_tree.specs.Profiles.{Profile}
 use Rattle.iot_machine.specs.Serving.{server_name, commit_text, kept_text}
 use Rattle.iot_machine.specs.Stops.{OpensNode, ComesBackWith, ComesBack, Crashes, Restarts, ArmsDisk, Shows}
 use Rattle.iot_machine.specs.Texts.{transaction_name, stopped_line, kept_line, client_line, tree_text, log_text}
@@ -186,7 +187,7 @@ restarts_server = asks_then (λ alive.
 
 -- ---- the events
 
-client_told : (scripts : List Declared) (c : ℕ) (what : ClientEvent ℕ) → TellsTo ledger_of Any (client_part scripts c what) (λ _. Any)
+client_told : (scripts : List Declared) (c : ℕ) (what : ClientEvent ℕ Profile) → TellsTo ledger_of Any (client_part scripts c what) (λ _. Any)
 client_told scripts c (client_events.Node what) = alone (λ m. does_node (map row_of m.clients) c m.server.stops m.server.durable what)
 client_told scripts c (client_events.Link what) = alone (λ m. does_link (map row_of m.clients) c m.server.stops m.server.durable what)
 client_told scripts c (client_events.Task what) = with_server (λ m. if_up (map row_of m.clients) c scripts what)
@@ -250,6 +251,8 @@ server_does nodes.Restart = restarts_server
 event_told : (event : Event) → TellsTo ledger_of (λ m. IsGrowing m.server) (event_part event) (λ _. Any)
 event_told (events.Client name) = anyhow (declares_told name)
 event_told (events.Script name code) = anyhow (does_told (λ m here. (told_nothing (ledger_of m) (ledger_of m) refl, tt)))
+event_told (events.Profile name profile) =
+    anyhow (does_told (λ m here. (told_nothing (ledger_of m) (ledger_of m) refl, tt)))
 event_told (events.At c what) = anyhow (asks_then (λ scripts. client_told scripts c what))
 event_told (events.Server what) = server_does what
 event_told events.Log = anyhow (asks_then (either_told

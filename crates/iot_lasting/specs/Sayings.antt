@@ -11,7 +11,7 @@ use Rattle.iot_tree.specs.declared.questions.Question.{Question}
 use Rattle.iot_machine.specs.Clients.{Next}
 use Rattle.iot_machine.specs.Events.{place_text}
 use Rattle.iot_machine.specs.Recorded.{labels_of}
-use Rattle.iot_machine.specs.Texts.{line, stopped_line, kept_line, lost_line, stop_line, lose_line, hoard_line, fetch_line, begin_line}
+use Rattle.iot_machine.specs.Texts.{line, stopped_line, kept_line, lost_line, stop_line, lose_line, hoard_line, walk_line, fetch_line, begin_line}
 use Rattle.iot_machine.specs.Texts.{step_line, again_line, cut_line, settled_line, conflict_line, resolve_line, repair_line, acts_output}
 use Rattle.iot_machine.specs.Texts.{tree_text, queue_text, reads_text, log_text}
 use Rattle.iot_lasting.specs.Ledger.{Ledger, names_of, IsNode, IsTransaction}
@@ -46,6 +46,7 @@ pub data IsOther (l : Ledger) (text : List ℕ) : Type 0 where
   lose : (name : List ℕ) (loss : Loss) → IsNode l name → text ≡ lose_line name loss → IsOther l text
   -- of objects
   hoard : (name : List ℕ) (path : Path) → IsNode l name → text ≡ hoard_line name path → IsOther l text
+  walk : (name : List ℕ) (held : Nodes) → IsNode l name → text ≡ walk_line name held → IsOther l text
   fetch : (path : Path) (away : Bool) → text ≡ fetch_line path away → IsOther l text
   -- of a transaction
   of_transaction : (word tid : List ℕ) → IsAmong transaction_words word → IsTransaction l tid → text ≡ line (word ++ tid) → IsOther l text

@@ -3,7 +3,7 @@ use Rattle.std.proofs.Common.{◌≡◌, ℕ, ◌*◌, ◌<◌, not, nat_lt, len
 use Rattle.std.proofs.Common.{refl, sym, subst, codes, arith}
 use Rattle.std.proofs.lemmas.Bool.Decides.{nat_tests}
 use Rattle.iot_tree.specs.Tree.{Nodes, Path}
-use Rattle.iot_tree.specs.declared.want.Want.{Want}
+use Rattle.iot_tree.specs.Profiles.{Profile}
 use Rattle.iot_tree.specs.declared.want.Want.TheVariants as wanted
 use Rattle.iot_event.specs.declared.event.Task.{Task}
 use Rattle.iot_event.specs.declared.event.Task.TheVariants as tasks
@@ -16,6 +16,8 @@ use Rattle.iot_machine.specs.Machine.{Commit, Pair, kept, script_at}
 use Rattle.iot_machine.specs.Options as options
 use Rattle.iot_machine.specs.Options.{OnConflict}
 use Rattle.iot_machine.specs.Serving.{Verdict, Settled, Conflict}
+use Rattle.iot_machine.specs.Serving as errands
+use Rattle.iot_machine.specs.Serving.{Errand}
 use Rattle.iot_machine.specs.Transactions as transactions
 use Rattle.iot_machine.specs.Transactions.{Notes, Refuses, is_full, IfIdle, IfRoom, IfNonePends, if_runs, IfRuns, Holds, took, Takes}
 use Rattle.iot_machine.specs.Transactions.{Starts, starts_if, Begins, step_by, step_of, Steps, yield_if, Yields}
@@ -24,7 +26,7 @@ use Rattle.iot_machine.specs.Transactions.{conflicted, told, resolved_on, resolv
 use Rattle.iot_machine.specs.Transactions.{SyncsAll, is_manual, if_manual, IfManual, Ended, waits_unless, syncs_or_waits, joins}
 use Rattle.iot_machine.specs.Transactions.{Compared, Same, Differs, Compares, same, parts, ends_by, certifies, end_by, Ends}
 use Rattle.iot_machine.specs.Texts.{conflict_line}
-use Rattle.iot_machine.specs.Events.{Hoards, Refreshes, BeginsAloud, StepsAloud, run_steps, runs_through, Runs, Drains, Repairs}
+use Rattle.iot_machine.specs.Events.{Hoards, Refreshes, Walks, BeginsAloud, StepsAloud, run_steps, runs_through, Runs, Drains, Repairs}
 use Rattle.iot_machine.specs.Events.{Discards, says_reads, ReadsOf, chosen, task_part}
 use Rattle.iot_machine.specs.Sound.{IsReady, CanResolve, IsPlanned}
 use Rattle.iot_machine.proofs.KeepsLaws.{Keeps, keeps_gets, keeps_asks, keeps_does, keeps_tells, stays_says, keeps_from, keeps_then}
@@ -88,21 +90,21 @@ module _ (Others : Commit → Type 0) (b : Core) where
   -- ---- objects
 
   holds_keeps : (P : Core → Type 0) (change : Nodes → ClientState → ClientState)
-      → ((t : Nodes) → Keeps (λ pair. P (core pair)) (Notes (change t)) (λ a. HoldsIf Others b P a)) → (want : Want)
-      → Keeps (λ pair. P (core pair)) (Holds change want) (λ a. HoldsIf Others b P a)
-  holds_keeps P change notes want = keeps_then (brings_keeps Others b P want) by_answer
+      → ((t : Nodes) → Keeps (λ pair. P (core pair)) (Notes (change t)) (λ a. HoldsIf Others b P a)) → (errand : Errand)
+      → Keeps (λ pair. P (core pair)) (Holds change errand) (λ a. HoldsIf Others b P a)
+  holds_keeps P change notes errand = keeps_then (brings_keeps Others b P errand) by_answer
     where
       by_answer : (answer : Option Nodes)
           → Keeps (λ pair. P (core pair)) (transactions.holds change answer) (λ a. HoldsIf Others b P a)
       by_answer None = keeps_gets (λ m it. it)
       by_answer (Some t) = keeps_goes (notes t) (λ _. keeps_gets (λ m it. it))
 
-  holds_wakes : {change : Nodes → ClientState → ClientState} → ((t : Nodes) (s : ClientState) → Follows s (change t s)) → (want : Want)
-      → Wakes (Holds change want)
-  holds_wakes {change} follows want = holds_keeps (IsUp Others b) change (λ t. notes_wakes (follows t)) want
+  holds_wakes : {change : Nodes → ClientState → ClientState} → ((t : Nodes) (s : ClientState) → Follows s (change t s)) → (errand : Errand)
+      → Wakes (Holds change errand)
+  holds_wakes {change} follows errand = holds_keeps (IsUp Others b) change (λ t. notes_wakes (follows t)) errand
 
-  takes_wakes : (want : Want) → Wakes (Takes want)
-  takes_wakes want = if_idle_wakes (if_none_pends_wakes (keeps_goes (holds_wakes hold_follows want) by_came))
+  takes_wakes : (errand : Errand) → Wakes (Takes errand)
+  takes_wakes errand = if_idle_wakes (if_none_pends_wakes (keeps_goes (holds_wakes hold_follows errand) by_came))
     where
       by_came : (came : Bool) → Wakes (took came)
       by_came true = answers_wakes tt
@@ -121,7 +123,7 @@ module _ (Others : Commit → Type 0) (b : Core) where
 
       by_pending : (pends : Bool) → WakesFrom (IsRoomy Others b) (starts_if script option pends)
       by_pending true = starts false
-      by_pending false = keeps_goes (holds_keeps (IsRoomy Others b) hold (notes_roomy Others b) wanted.Nothing) starts
+      by_pending false = keeps_goes (holds_keeps (IsRoomy Others b) hold (notes_roomy Others b) (errands.Refresh wanted.Nothing)) starts
 
   -- ---- steps
 
@@ -139,7 +141,7 @@ module _ (Others : Commit → Type 0) (b : Core) where
       by_next AtEnd = answers_wakes false
       by_next AtLimit = answers_wakes false
       by_next Acts = keeps_goes (notes_wakes (act_once_follows number)) (λ _. answers_wakes true)
-      by_next (Fetches path) = keeps_goes (holds_wakes (fetch_follows number) (wanted.Path path))
+      by_next (Fetches path) = keeps_goes (holds_wakes (fetch_follows number) (errands.Refresh (wanted.Path path)))
           (λ came. keeps_either (tells_wakes _) (answers_wakes _) loud)
 
       by_running : (running : Option Running) → Wakes (step_of number loud running)
@@ -205,7 +207,7 @@ module _ (Others : Commit → Type 0) (b : Core) where
       by_plan name None = keeps_gets (λ m it. up_of Others b item (core m) it)
       by_plan name (Some plan) = keeps_then
           (exchange_keeps (same_passes Others b (IsOpen Others b item))
-          (lends_keeps (IsOpen Others b item) new_client.held (wanted.Below [])))
+          (lends_keeps (IsOpen Others b item) new_client.held (errands.Refresh (wanted.Below []))))
           (by_answer name plan)
 
   -- one that submits nothing is not in the list
@@ -293,10 +295,13 @@ module _ (Others : Commit → Type 0) (b : Core) where
   -- ---- a client's events
 
   pub hoards_wakes : (path : Path) → Wakes (Hoards path)
-  hoards_wakes path = keeps_goes (takes_wakes (wanted.Below path)) (λ _. tells_wakes tt)
+  hoards_wakes path = keeps_goes (takes_wakes (errands.Refresh (wanted.Below path))) (λ _. tells_wakes tt)
 
   pub refreshes_wakes : Wakes Refreshes
-  refreshes_wakes = keeps_goes (takes_wakes wanted.Nothing) (λ _. tells_wakes tt)
+  refreshes_wakes = keeps_goes (takes_wakes (errands.Refresh wanted.Nothing)) (λ _. tells_wakes tt)
+
+  pub walks_wakes : (profile : Profile) (limit : ℕ) → Wakes (Walks profile limit)
+  walks_wakes profile limit = keeps_goes (takes_wakes (errands.Walk profile limit)) (λ _. tells_wakes tt)
 
   pub begins_aloud_wakes : (script : Declared) (option : OnConflict Declared) → Wakes (BeginsAloud script option)
   begins_aloud_wakes script option = keeps_goes (begins_wakes script option) (λ _. tells_wakes tt)
@@ -354,10 +359,11 @@ module _ (Others : Commit → Type 0) (b : Core) where
 
   -- ---- the events
 
-  pub task_wakes : (scripts : List Declared) (task : Task ℕ) → Wakes (task_part scripts task)
+  pub task_wakes : (scripts : List Declared) (task : Task ℕ Profile) → Wakes (task_part scripts task)
   task_wakes scripts (tasks.Run script option) = runs_wakes (script_at scripts script) (chosen scripts option)
   task_wakes scripts (tasks.Hoard path) = hoards_wakes path
   task_wakes scripts tasks.Refresh = refreshes_wakes
+  task_wakes scripts (tasks.Walk profile limit) = walks_wakes profile limit
   task_wakes scripts (tasks.Begin script option) = begins_aloud_wakes (script_at scripts script) (chosen scripts option)
   task_wakes scripts (tasks.Step count transaction) = steps_aloud_wakes count transaction
   task_wakes scripts (tasks.End transaction) = ends_wakes transaction

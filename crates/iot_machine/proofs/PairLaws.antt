@@ -7,7 +7,6 @@ use Rattle.std.proofs.lemmas.Bool.Decides.{nat_tests}
 use Rattle.std.proofs.lemmas.Iterator.Adapters.{position_from-zero}
 use Rattle.std.specs.List.{AllByRecursion, position_from}
 use Rattle.iot_tree.specs.Tree.{Nodes}
-use Rattle.iot_tree.specs.declared.want.Want.{Want}
 use Rattle.iot_link.specs.Links as link
 use Rattle.iot_link.specs.Links.{LinkState, passage}
 use Rattle.iot_link.specs.declared.passages.Loss.{Loss}
@@ -19,7 +18,7 @@ use Rattle.iot_machine.specs.Clients.{Stage, Item, ClientState, most_running, ho
 use Rattle.iot_machine.specs.Machine.{Commit, Pair, its_client, its_server, add_commit}
 use Rattle.iot_machine.specs.Nodes.{Node}
 use Rattle.iot_machine.specs.Stops.{Appends}
-use Rattle.iot_machine.specs.Serving.{is_of, number_of, server_name, Submission, Verdict, Settled, Conflict, Lends, Judges, judged}
+use Rattle.iot_machine.specs.Serving.{is_of, number_of, server_name, Submission, Verdict, Settled, Conflict, Errand, Lends, Judges, judged}
 use Rattle.iot_machine.specs.Serving.{Certifies, holds, conflicts, Commits, committed}
 use Rattle.iot_machine.specs.Transactions.{Writes, unless_stopped, Notes, counted, Handles, received, exchange_by, Exchange, Brings}
 use Rattle.iot_machine.specs.Transactions.{commit_of}
@@ -175,8 +174,9 @@ exchange_keeps {A} {P} {Q} {request} passes served =
         keeps_from (λ m here. (here.0, both_reached m.client.link m.server.alive here.1)) (keeps_then handled received_keeps)
 
 -- what only asks the server
-pub lends_keeps : (P : Core → Type 0) (held : Nodes) (want : Want) → Keeps (Reached P) (At its_server (Lends held want)) (λ _ m. P (core m))
-lends_keeps P held want = keeps_at (λ m here. keeps_asks (λ node is.
+pub lends_keeps : (P : Core → Type 0) (held : Nodes) (errand : Errand)
+    → Keeps (Reached P) (At its_server (Lends held errand)) (λ _ m. P (core m))
+lends_keeps P held errand = keeps_at (λ m here. keeps_asks (λ node is.
     subst (λ (node : Node (List Commit)). P (with_server node (core m))) (sym is) here.0))
 
 -- ---- what holds of the two: of a commit of another client this is known
@@ -529,5 +529,5 @@ module _ (Others : Commit → Type 0) where
     pub same_passes : {A : Type 0} (P : Core → Type 0) → Passes A P (λ _. P)
     same_passes P = record { nothing = λ p it. it; lost = λ a p it. it }
 
-    pub brings_keeps : (P : Core → Type 0) (want : Want) → Keeps (λ pair. P (core pair)) (Brings want) (λ _ pair. P (core pair))
-    brings_keeps P want = asks_then (λ held. exchange_keeps (same_passes P) (lends_keeps P held want))
+    pub brings_keeps : (P : Core → Type 0) (errand : Errand) → Keeps (λ pair. P (core pair)) (Brings errand) (λ _ pair. P (core pair))
+    brings_keeps P errand = asks_then (λ held. exchange_keeps (same_passes P) (lends_keeps P held errand))

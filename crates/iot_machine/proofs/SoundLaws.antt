@@ -476,6 +476,8 @@ event_good (events.Client name) m n text sound step = (declares_good (add_client
 event_good (events.Script name code) m n text sound step = same_event m (events.Script name code) refl
     (keeps_does (λ k here. good_same m k (declare_script (record { name = name; code = code }) k) refl refl refl (good_first m k here)))
     n text sound step
+event_good (events.Profile name profile) m n text sound step =
+    same_event m (events.Profile name profile) refl (keeps_does (good_first m)) n text sound step
 event_good (events.At c (client_events.Node what)) m n text sound step = node_good c what m n text sound step
 event_good (events.At c (client_events.Link what)) m n text sound step =
     same_event m (events.At c (client_events.Link what)) refl (asks_then (λ scripts. link_good m c what)) n text sound step

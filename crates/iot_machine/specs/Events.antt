@@ -2,6 +2,7 @@
 use Rattle.std.specs.Prelude.{◌≡◌, ℕ, ◌-◌, ◌&&◌, not, Bool, true, false, List, [], ◌∷◌, ◌++◌, Option, None, Some, codes, map, slice_get}
 use Rattle.std.specs.Prelude.{drop, length}
 use Rattle.iot_disk.specs.declared.disk.Pick.{Pick}
+use Rattle.iot_tree.specs.Profiles.{Profile}
 use Rattle.iot_tree.specs.declared.want.Want.TheVariants as wanted
 use Rattle.iot_event.specs.declared.event.Choice.{Choice}
 use Rattle.iot_event.specs.declared.event.Choice.TheVariants as choices
@@ -31,9 +32,10 @@ use Rattle.iot_machine.specs.Options as options
 use Rattle.iot_machine.specs.Options.{OnConflict}
 use Rattle.iot_machine.specs.Recorded.{queue_kept, labels_of}
 use Rattle.iot_machine.specs.Serving.{server_name, kept_text}
+use Rattle.iot_machine.specs.Serving as errands
 use Rattle.iot_machine.specs.Stops.{OpensNode, ComesBack, Crashes, Restarts, ArmsDisk, Shows}
 use Rattle.iot_machine.specs.Texts.{line, connect_line, disconnect_line, lose_line}
-use Rattle.iot_machine.specs.Texts.{client_line, hoard_line, refresh_line, begin_line, step_line, repair_line, discard_line}
+use Rattle.iot_machine.specs.Texts.{client_line, hoard_line, refresh_line, walk_line, begin_line, step_line, repair_line, discard_line}
 use Rattle.iot_machine.specs.Texts.{transaction_name, tree_text, cut_line, queue_text, reads_text, log_text}
 use Rattle.iot_machine.specs.Transactions.{Writes, Notes, Refuses, IfRoom, IfRuns, runs, pends, Takes, Begins, Steps, next_of, Ends}
 use Rattle.iot_machine.specs.Transactions.{Syncs, SyncsAll, item_name, IfManual}
@@ -63,10 +65,15 @@ abbrev pub Closes : (Pair → List ℕ) → Try Pair (Unit {0})
 Closes text = Tells text (Some tt)
 
 abbrev pub Hoards : List (List ℕ) → Try Pair (Unit {0})
-Hoards path = Goes (Takes (wanted.Below path)) (λ _. Closes (λ pair. hoard_line pair.client.name path))
+Hoards path = Goes (Takes (errands.Refresh (wanted.Below path))) (λ _. Closes (λ pair. hoard_line pair.client.name path))
 
 abbrev pub Refreshes : Try Pair (Unit {0})
-Refreshes = Goes (Takes wanted.Nothing) (λ _. Closes (λ pair. refresh_line pair.client.name))
+Refreshes = Goes (Takes (errands.Refresh wanted.Nothing)) (λ _. Closes (λ pair. refresh_line pair.client.name))
+
+-- what it knows then is what was picked, of which the line tells how many paths it is and how much they take
+abbrev pub Walks : Profile → (limit : ℕ) → Try Pair (Unit {0})
+Walks profile limit =
+    Goes (Takes (errands.Walk profile limit)) (λ _. Closes (λ pair. walk_line pair.client.name (kept pair).held))
 
 -- what is said of a running transaction
 abbrev pub said_of : (Running → List ℕ) → Option Running → List ℕ
@@ -246,10 +253,11 @@ chosen scripts choices.Abort = options.Abort
 chosen scripts choices.Manual = options.Manual
 
 -- what a client does that is alive, among these scripts
-abbrev pub task_part : List Declared → Task ℕ → Try Pair (Unit {0})
+abbrev pub task_part : List Declared → Task ℕ Profile → Try Pair (Unit {0})
 task_part scripts (tasks.Run script option) = Runs (script_at scripts script) (chosen scripts option)
 task_part scripts (tasks.Hoard path) = Hoards path
 task_part scripts tasks.Refresh = Refreshes
+task_part scripts (tasks.Walk profile limit) = Walks profile limit
 task_part scripts (tasks.Begin script option) = BeginsAloud (script_at scripts script) (chosen scripts option)
 task_part scripts (tasks.Step count transaction) = StepsAloud count transaction
 task_part scripts (tasks.End transaction) = Ends transaction
@@ -273,7 +281,7 @@ node_part (nodes.Stop calls pick) = ArmsClient calls pick
 node_part nodes.Crash = CrashesClient
 node_part nodes.Restart = RestartsClient
 
-abbrev pub client_part : List Declared → (client : ℕ) → ClientEvent ℕ → Part Machine
+abbrev pub client_part : List Declared → (client : ℕ) → ClientEvent ℕ Profile → Part Machine
 client_part scripts c (client_events.Node what) = At (client_at c) (node_part what)
 client_part scripts c (client_events.Link what) = At (client_at c) (link_part what)
 client_part scripts c (client_events.Task what) = OfClient c (task_part scripts what)
@@ -288,6 +296,7 @@ server_part nodes.Restart = RestartsServer
 abbrev pub event_part : Event → Part Machine
 event_part (events.Client name) = Declares name
 event_part (events.Script name code) = Does (λ _. []) (declare_script (record { name = name; code = code }))
+event_part (events.Profile name profile) = Nothing
 event_part (events.At client what) = Then (Asks (λ m. m.scripts)) (λ scripts. client_part scripts client what)
 event_part (events.Server what) = server_part what
 event_part events.Log = Logs

@@ -6,6 +6,9 @@ use Rattle.iot_tree.specs.declared.acts.Read.{Read}
 use Rattle.iot_tree.specs.declared.questions.Answer.{Answer}
 use Rattle.iot_tree.specs.declared.questions.Question.{Question}
 use Rattle.iot_tree.specs.declared.want.Want.{Want}
+use Rattle.iot_tree.specs.Profiles.{Profile}
+use Rattle.iot_tree.specs.Snapshots.{has, prune}
+use Rattle.iot_hoard.specs.Picking.{picked}
 use Rattle.iot_acts.specs.Turns.{reads_of}
 use Rattle.iot_exec.specs.Parting.{PartsAt}
 use Rattle.iot_exec.specs.Serial.{run_entry}
@@ -21,9 +24,18 @@ server_name = codes "server"
 
 -- ---- objects
 
--- its tree, cut down to what a client with this held tree knows and wants
-abbrev pub Lends : (held : Nodes) → Want → Call (Node (List Commit)) (Option Nodes)
-Lends held want = Asks (λ node. Some (snapshot held want (tree_after node.durable)))
+-- what a client asks for: what it knows and wants besides, or what a profile picks within a limit
+pub data Errand : Type 0 where
+  Refresh : Want → Errand
+  Walk : Profile → (limit : ℕ) → Errand
+
+-- the server's tree, cut down to that for a client with this held tree
+abbrev pub lent : (held : Nodes) → Errand → (server : Nodes) → Nodes
+lent held (Refresh want) server = snapshot held want server
+lent held (Walk profile limit) server = prune server (has (picked server profile limit))
+
+abbrev pub Lends : (held : Nodes) → Errand → Call (Node (List Commit)) (Option Nodes)
+Lends held errand = Asks (λ node. Some (lent held errand (tree_after node.durable)))
 
 -- ---- submissions
 

@@ -1,7 +1,10 @@
 -- The lines that events print. Those that say what nodes hold are of the crate that looks at nodes, and passed on.
-use Rattle.std.specs.Prelude.{ℕ, Bool, true, false, List, [], ◌∷◌, ◌++◌, codes, decimal}
+use Rattle.std.specs.Prelude.{ℕ, Bool, true, false, List, [], ◌∷◌, ◌++◌, codes, decimal, length}
 use Rattle.std.specs.List.{flat_map}
 use Rattle.iot_text.specs.Paths.{path_text}
+use Rattle.iot_tree.specs.Snapshots.{known}
+use Rattle.iot_tree.specs.Tree.{Nodes}
+use Rattle.iot_hoard.specs.Sizes.{size_within}
 use Rattle.iot_disk.specs.declared.disk.Pick.{Pick}
 use Rattle.iot_disk.specs.declared.disk.Pick.TheVariants.{Old, New, Fill}
 use Rattle.iot_link.specs.declared.passages.Loss.{Loss}
@@ -42,6 +45,12 @@ hoard_line name path = line (codes "hoard " ++ name ++ 32 ∷ path_text path)
 
 abbrev pub refresh_line : List ℕ → List ℕ
 refresh_line name = line (codes "refresh " ++ name)
+
+-- so many paths are known, and take so much
+abbrev pub walk_line : List ℕ → (held : Nodes) → List ℕ
+walk_line name held =
+    line (codes "walk " ++ name ++ 32 ∷ decimal (length (known held)) ++ codes " paths " ++ decimal (size_within held (known held))
+    ++ codes " bytes")
 
 abbrev pub begin_line : List ℕ → List ℕ → (first : Bool) → List ℕ
 begin_line tid script first = line (codes "begin " ++ tid ++ 32 ∷ script ++ 32 ∷ class_text first)

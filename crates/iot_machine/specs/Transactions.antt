@@ -2,7 +2,6 @@
 -- its event: the client has stopped, or it has refused.
 use Rattle.std.specs.Prelude.{◌≡◌, ℕ, ◌+◌, ◌*◌, not, nat_lt, length, Bool, true, false, List, [], ◌∷◌, ◌++◌, Option, None, Some, codes}
 use Rattle.iot_tree.specs.Tree.{Nodes, Path}
-use Rattle.iot_tree.specs.declared.want.Want.{Want}
 use Rattle.iot_tree.specs.declared.want.Want.TheVariants as wanted
 use Rattle.iot_tree.specs.declared.questions.Question.{Question}
 use Rattle.iot_acts.specs.Turns.{reads_of}
@@ -20,7 +19,8 @@ use Rattle.iot_machine.specs.Machine.{break_link, count_request}
 use Rattle.iot_machine.specs.Nodes.{Node}
 use Rattle.iot_machine.specs.Options as options
 use Rattle.iot_machine.specs.Options.{OnConflict}
-use Rattle.iot_machine.specs.Serving.{Lends, Judges, Submission, Verdict, Settled, Conflict, Parts}
+use Rattle.iot_machine.specs.Serving.{Errand, Lends, Judges, Submission, Verdict, Settled, Conflict, Parts}
+use Rattle.iot_machine.specs.Serving as errands
 use Rattle.iot_machine.specs.Stops.{Appends}
 use Rattle.iot_machine.specs.Texts.{line, transaction_name, acts_output, fetch_line, end_line, again_line}
 use Rattle.iot_machine.specs.Texts.{settled_line, conflict_line, abort_line, manual_line, resolve_line, pending_line}
@@ -63,8 +63,8 @@ abbrev pub Exchange : {A : Type 0} → Call (Node (List Commit)) (Option A) → 
 Exchange request = Then (Asks (λ pair. passage pair.client.link pair.server.alive)) (exchange_by request)
 
 -- it asks for objects
-abbrev pub Brings : Want → Call Pair (Option Nodes)
-Brings want = Then (Asks (λ pair. (kept pair).held)) (λ held. Exchange (Lends held want))
+abbrev pub Brings : Errand → Call Pair (Option Nodes)
+Brings errand = Then (Asks (λ pair. (kept pair).held)) (λ held. Exchange (Lends held errand))
 
 -- ---- refusals
 
@@ -115,17 +115,17 @@ abbrev pub holds : (Nodes → ClientState → ClientState) → Option Nodes → 
 holds change None = Answers (Some false)
 holds change (Some t) = Goes (Notes (change t)) (λ _. Answers (Some true))
 
--- what is wanted is brought and held, by this change; and whether it came
-abbrev pub Holds : (Nodes → ClientState → ClientState) → Want → Try Pair Bool
-Holds change want = Then (Brings want) (holds change)
+-- what it asks for is brought and held, by this change; and whether it came
+abbrev pub Holds : (Nodes → ClientState → ClientState) → Errand → Try Pair Bool
+Holds change errand = Then (Brings errand) (holds change)
 
 abbrev pub took : Bool → Try Pair (Unit {0})
 took true = Answers (Some tt)
 took false = Refuses (codes "away")
 
--- if nothing runs or waits, what is wanted is brought and held
-abbrev pub Takes : Want → Try Pair (Unit {0})
-Takes want = IfIdle (IfNonePends (Goes (Holds hold want) took))
+-- if nothing runs or waits, what it asks for is brought and held
+abbrev pub Takes : Errand → Try Pair (Unit {0})
+Takes errand = IfIdle (IfNonePends (Goes (Holds hold errand) took))
 
 -- ---- begin
 
@@ -138,7 +138,7 @@ Starts script option first =
 -- it is first class if a refresh came; as long as transactions wait, nothing is asked
 abbrev pub starts_if : Declared → OnConflict Declared → (pends : Bool) → Try Pair ℕ
 starts_if script option true = Starts script option false
-starts_if script option false = Goes (Holds hold wanted.Nothing) (Starts script option)
+starts_if script option false = Goes (Holds hold (errands.Refresh wanted.Nothing)) (Starts script option)
 
 -- unless as many run as may, a transaction of this script begins, and has this number
 abbrev pub Begins : Declared → OnConflict Declared → Try Pair ℕ
@@ -163,7 +163,7 @@ abbrev pub step_by : (number : ℕ) → (loud : Bool) → Next → Try Pair Bool
 step_by number loud AtEnd = Answers (Some false)
 step_by number loud AtLimit = Answers (Some false)
 step_by number loud Acts = Goes (Notes (act_once number)) (λ _. Answers (Some true))
-step_by number loud (Fetches path) = Goes (Holds (fetch number) (wanted.Path path)) (fetched loud path)
+step_by number loud (Fetches path) = Goes (Holds (fetch number) (errands.Refresh (wanted.Path path))) (fetched loud path)
 
 -- the next step of a running transaction
 abbrev pub next_of : Running → Pair → Next
@@ -254,7 +254,7 @@ resolved_on name plan (Some t) = NotesAloud (reach (stages.Resolved (resolution_
 -- nothing is known and all is wanted, so the server's whole tree comes; no other than one that is to be resolved comes here
 abbrev pub resolves : List ℕ → Option Plan → Try Pair Synced
 resolves name None = Answers (Some Unanswered)
-resolves name (Some plan) = Then (Exchange (Lends new_client.held (wanted.Below []))) (resolved_on name plan)
+resolves name (Some plan) = Then (Exchange (Lends new_client.held (errands.Refresh (wanted.Below [])))) (resolved_on name plan)
 
 abbrev pub Resolves : Item → Try Pair Synced
 Resolves item = Then (Asks (item_name item)) (λ name. Then (Asks (λ pair. plan_of (kept pair).held item)) (resolves name))
