@@ -9,7 +9,9 @@ use Rattle.iot_certify.specs.declared.verdict.Verdict.TheVariants.{Holds, Differ
 use Rattle.iot_disk.specs.declared.faults.JournalFault.TheVariants as append
 use Rattle.iot_durable.proofs.StandingLaws.{leads_push}
 use Rattle.iot_node.specs.Posts as posts
+use Rattle.iot_server.specs.Replies.{Answers}
 use Rattle.iot_server.specs.Servers as servers
+use Rattle.iot_tree.specs.Profiles.{Profile}
 use Rattle.iot_store.specs.Numbers.{number_in}
 use Rattle.iot_store.proofs.NumbersLaws.{is_new_from}
 use Rattle.iot_store.proofs.StandingLaws.{store_alone, store_stays}
@@ -119,12 +121,20 @@ module _ {D : Type 0} (medium : Medium D) (is_image : (disk : D) → medium.may_
     submits_on reply {bytes} is None none (Differs place answer, judged, (replied, made)) stands =
         same_on (subst (StandFor bytes) made stands)
 
+    -- a walk changes nothing
+    walked_on : (client : ℕ) (profile : Profile) (limit : ℕ) (reply : Reply) (bytes : List ℕ)
+        → Answers before (requests.Walk client profile limit) reply (servers.state_of now) → StandFor bytes (servers.state_of now)
+        → GoesOnFrom from bytes
+    walked_on client profile limit reply bytes (paths, picks, is, same) stands = same_on (subst (StandFor bytes) same stands)
+
     -- bytes that stand for the state after a request
     answered_on : {asked reply : List ℕ} (request : Request) {bytes : List ℕ} → IsMessage IsRequest request_spelling asked request
         → IsAnswered before (servers.encoded_on medium was) request reply (servers.state_of now) (servers.encoded_on medium now)
         → StandFor bytes (servers.state_of now) → GoesOnFrom from bytes
     answered_on (requests.Refresh client known want) {bytes} is answered stands =
         same_on (subst (StandFor bytes) answered.answers.1 stands)
+    answered_on (requests.Walk client profile limit) {bytes} is answered stands =
+        walked_on client profile limit answered.reply bytes answered.answers stands
     answered_on (requests.Commit label access lines) is answered stands =
         submits_on answered.reply is (number_in before.labels label.client label.tid) refl answered.answers stands
 

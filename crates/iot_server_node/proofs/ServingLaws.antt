@@ -10,10 +10,10 @@ use Rattle.iot_server_node.proofs.Common.{◌-◌, true, false, cond, ◌∷◌,
 use Rattle.iot_server_node.proofs.Common.{Handles, Refuses, KeepsList, committed_since, said_of, SpellsCut, printed_under, disk_of}
 use Rattle.iot_server_node.proofs.Common.{ServerStands, AreOf, IsImage, label_of, state_of, bind, asks, says_this, answers}
 use Rattle.iot_slots.specs.declared.version.Version.TheVariants.{Two}
-use Rattle.iot_server_node.specs.Prelude.{Medium, JournalFault, Nodes, IsTree, IsWhole, Want, IsAnswered, Submits, EncodesAfter, Server}
+use Rattle.iot_server_node.specs.Prelude.{Medium, JournalFault, Nodes, IsTree, IsWhole, IsAnswered, Submits, EncodesAfter, Server}
 use Rattle.iot_server_node.specs.Prelude.{State, CanFollow, Leads, rules, after_commit, IsMessage, IsRequest, request_spelling, Request}
-use Rattle.iot_server_node.specs.Prelude.{next, run_entry, snapshot, Commit, add_commit, tree_after, Call, Then, Node, changed, doubting}
-use Rattle.iot_server_node.specs.Prelude.{server_name, Lasts, HoldsEither, IsRefresh, Spells, Handed, Message, Served, ServerNode, ActsHold}
+use Rattle.iot_server_node.specs.Prelude.{next, run_entry, Commit, add_commit, tree_after, Call, Then, Node, changed, doubting}
+use Rattle.iot_server_node.specs.Prelude.{server_name, Lasts, HoldsEither, IsErrand, Spells, Handed, Message, Served, ServerNode, ActsHold}
 use Rattle.iot_server_node.specs.Prelude.{reads_of, turns, DiffersAt, Appends, commit_line, acts_output, EachIs, StepsTo}
 use Rattle.iot_server_node.specs.Prelude.{Act, Label, Reply}
 use Rattle.iot_disk.specs.declared.faults.JournalFault.TheVariants as append
@@ -21,9 +21,17 @@ use Rattle.iot_server.specs.Servers as servers
 use Rattle.iot_wire.specs.Messages.{IsOneMessage}
 use Rattle.iot_wire.proofs.MessagesLaws.{call_one}
 use Rattle.iot_wire.proofs.SpellingLaws.{request_laws}
+use Rattle.iot_machine.specs.Serving.{Refresh, Walk}
 use Rattle.iot_machine.specs.Serving.{Lends, Submission, Judges, committed, Settled, Conflict, number_of, commit_text}
 use Rattle.iot_judging.proofs.RunTreesLaws.{list_tree, list_whole}
-use Rattle.iot_stamp.specs.Refresh.{changes_for, known_with_stamps}
+use Rattle.iot_hoard.proofs.TakingLaws.{pick_is}
+use Rattle.iot_hoard.specs.Picking.{picked}
+use Rattle.iot_judging.specs.Errands.{request_for}
+use Rattle.iot_server.specs.Replies.{Answers}
+use Rattle.iot_server_node.specs.Prelude.{Encoded, Errand, changes_to, lent}
+use Rattle.iot_stamp.specs.Refresh.{changes_on}
+use Rattle.iot_tree.specs.Snapshots.{has}
+use Rattle.iot_tree.specs.Tree.{Path}
 use Rattle.iot_stamp.specs.Stamps.{Stamps, nodes_of}
 use Rattle.iot_wire.specs.declared.replies.Reply.TheVariants as replies
 use Rattle.iot_judging.proofs.ListsLaws.{list_stamped}
@@ -124,40 +132,75 @@ refused_lasts {D} {medium} {names} {asked} fault {old} {mid} {new} {node} {n} al
 
 -- ---- a request for objects
 
-module _ {D : Type 0} (medium : Medium D) (message : Message) {client : ℕ} (held : Stamps) {want : Want}
-    (asks : IsRefresh client held want message.request.items) where
-  -- what changed in its tree for what is known or wanted, and with that its tree cut down to this
+-- the server answers it by what its tree has for it, and is the same after it
+answers_errand : {before after : State} (client : ℕ) (held : Stamps) (errand : Errand) (reply : Reply)
+    → nodes_of before.stamps ≡ before.tree → Answers before (request_for client held errand) reply after
+    → (reply ≡ replies.Objects (changes_to before.stamps held errand)) × (after ≡ before)
+answers_errand client held (Refresh want) reply nodes answers = answers
+answers_errand {before} client held (Walk profile limit) reply nodes (paths, picks, is, same) = (
+  is
+      ∙ ap (λ (k : List Path). replies.Objects (changes_on before.stamps [] (has k)))
+      (pick_is before.tree profile limit picks ∙ (λ i. picked (sym nodes i) profile limit)),
+  same,
+)
+
+-- it appends nothing
+no_commit : (client : ℕ) (held : Stamps) (errand : Errand) (label : Label) (access : Access) (lines : List (List ℕ))
+    → requests.Commit label access lines ≡ request_for client held errand → ⊥
+no_commit client held (Refresh want) label access lines same = absurd cc
+no_commit client held (Walk profile limit) label access lines same = absurd cc
+
+-- so the disk encodes what it did
+still_encodes : (client : ℕ) (held : Stamps) (errand : Errand) (reply : Reply) (before : State) (was now : Encoded)
+    → EncodesAfter (request_for client held errand) reply before was now → now ≡ was
+still_encodes client held (Refresh want) reply before was now it = it
+still_encodes client held (Walk profile limit) reply before was now it = it
+
+-- and it is the same after it, whatever its tree is
+still_after : {before after : State} (client : ℕ) (held : Stamps) (errand : Errand) (reply : Reply)
+    → Answers before (request_for client held errand) reply after → after ≡ before
+still_after client held (Refresh want) reply answers = answers.1
+still_after client held (Walk profile limit) reply (paths, picks, is, same) = same
+
+module _ {D : Type 0} (medium : Medium D) (message : Message) (client : ℕ) (held : Stamps) (errand : Errand)
+    (asks : IsErrand client held errand message.request.items) where
+  -- what its tree has for it, and with that its tree cut down to this
   pub lends : (names : List (List ℕ)) (served : Served) {old new : ServerNode D} {y : List ℕ} → ServerIsSound medium old
       → Handled medium message.request.items served.reply.items old new
       → served.committed ≡ committed_since (count_of old) (count_of new)
-      → ServesBy medium names (Lends (nodes_of held) want) (SpellsCut (stamps_of old) held want) message.handed (Some served) old new y y
+      → ServesBy medium names (Lends (nodes_of held) errand) (SpellsCut (stamps_of old) held errand) message.handed (Some served) old new
+      y y
   lends names served {old} sound handled counted =
-      by_servers (SpellsCut (stamps_of old) held want) message served sound handled counted (λ was now is it sound counted.
+      by_servers (SpellsCut (stamps_of old) held errand) message served sound handled counted (λ was now is it sound counted.
       let told = answers_it message served it asks in
       let stamped = list_stamped sound.node.durable in
       let stamps : stamps_of old ≡ (servers.state_of was).stamps = ap stamps_of is in
       let its_stamps = stamps ∙ ap (λ (s : State). s.stamps) sound.stands.post.stands.has_state in
       let its_tree : nodes_of (stamps_of old) ≡ (servers.state_of was).tree =
-      ap nodes_of its_stamps ∙ stamped.nodes ∙ sym (ap (λ (s : State). s.tree) sound.stands.post.stands.has_state) in (
+      ap nodes_of its_stamps ∙ stamped.nodes ∙ sym (ap (λ (s : State). s.tree) sound.stands.post.stands.has_state) in
+      let answered = answers_errand client held errand told.reply (ap nodes_of (sym stamps) ∙ its_tree) told.answers in (
         refl,
         (
-          snapshot (nodes_of held) want (servers.state_of was).tree,
+          lent (nodes_of held) errand (servers.state_of was).tree,
           record {
             spelled =
-                subst (λ (s : Stamps). Spells served.reply.items (replies.Objects (changes_for s (known_with_stamps held) want)))
+                subst (λ (s : Stamps). Spells served.reply.items (replies.Objects (changes_to s held errand)))
                 (sym stamps)
-                (subst (Spells served.reply.items) told.answers.0 told.spelled);
+                (subst (Spells served.reply.items) answered.0 told.spelled);
             tree = subst (λ (s : Stamps). IsTree (nodes_of s)) (sym its_stamps) (subst IsTree (sym stamped.nodes) stamped.tree);
             whole = subst (λ (s : Stamps). IsWhole (nodes_of s)) (sym its_stamps) (subst IsWhole (sym stamped.nodes) stamped.whole);
-            cut = ap (snapshot (nodes_of held) want) (sym its_tree);
+            cut = ap (lent (nodes_of held) errand) (sym its_tree);
           },
           λ n x. record {
             step = λ node here. (
               [],
               node,
-              ap (λ (text : List ℕ). x ++ text) (still_silent message served it counted told.answers.1),
-              (refl, ap (λ (s : State). Some (snapshot (nodes_of held) want s.tree)) here.post.stands.has_state, refl),
-              stands_still medium names it here told.encodes told.answers.1,
+              ap (λ (text : List ℕ). x ++ text) (still_silent message served it counted answered.1),
+              (refl, ap (λ (s : State). Some (lent (nodes_of held) errand s.tree)) here.post.stands.has_state, refl),
+              stands_still medium names it here
+                  (still_encodes client held errand told.reply (servers.state_of was) (servers.encoded_on medium was)
+                  (servers.encoded_on medium now) told.encodes)
+                  answered.1,
             );
           },
         ),
@@ -168,12 +211,12 @@ module _ {D : Type 0} (medium : Medium D) (message : Message) {client : ℕ} (he
       → stamps_of new ≡ stamps_of old
   stays_stamped served handled =
       let told = answers_it message served handled.by asks in
-      ap stamps_of handled.new_is ∙ ap (λ (s : State). s.stamps) told.answers.1 ∙ sym (ap stamps_of handled.old_is)
+      ap stamps_of handled.new_is ∙ ap (λ (s : State). s.stamps) (still_after client held errand told.reply told.answers)
+      ∙ sym (ap stamps_of handled.old_is)
 
   appends_nothing : (was now : Server D) → Refuses medium message.request.items append.Stopped was now → ⊥
   appends_nothing was now stops =
-      let same = one_request message _ _ stops.0.asked asks in
-      absurd cc
+      no_commit client held errand _ _ _ (one_request message _ _ stops.0.asked asks)
 
   -- it does not stop in that, since it appends nothing
   pub lends_always : {fault : JournalFault} {old new : ServerNode D} → fault ≡ append.Stopped

@@ -1,9 +1,8 @@
 -- Messages between a client and the server, and what they say.
 use Rattle.std.specs.Prelude.{◌≡◌, ℕ, ◌++◌, List, [], leb, if◌then◌else◌, Option, Some, None}
-use Rattle.iot_server_node.specs.Prelude.{Nodes, IsTree, IsWhole, Want, IsMessage, IsRequest, request_spelling, Request, snapshot}
+use Rattle.iot_server_node.specs.Prelude.{Nodes, IsTree, IsWhole, IsMessage, IsRequest, request_spelling, Request, Errand, lent, changes_to}
 use Rattle.iot_server_node.specs.Prelude.{commit_line, Handed, Spells}
 use Rattle.iot_wire.specs.declared.replies.Reply.TheVariants as replies
-use Rattle.iot_stamp.specs.Refresh.{changes_for, known_with_stamps}
 use Rattle.iot_stamp.specs.Stamps.{Stamps, nodes_of}
 use Rattle.iot_node.specs.Lines.{name_of}
 
@@ -32,10 +31,10 @@ said_of (Some number) handed = printed_under number handed
 
 -- ---- replies
 
--- the reply brings what changed in this stamped tree, which is whole, for a client with this held tree and want: so that one makes
--- this tree of what it holds
-pub record SpellsCut (server held : Stamps) (want : Want) (bytes : List ℕ) (t : Nodes) : Type 0 where
-  pub spelled : Spells bytes (replies.Objects (changes_for server (known_with_stamps held) want))
+-- the reply brings what this stamped tree, which is whole, has for the errand of a client with this held tree: so that one makes this
+-- tree of it
+pub record SpellsCut (server held : Stamps) (errand : Errand) (bytes : List ℕ) (t : Nodes) : Type 0 where
+  pub spelled : Spells bytes (replies.Objects (changes_to server held errand))
   pub tree : IsTree (nodes_of server)
   pub whole : IsWhole (nodes_of server)
-  pub cut : t ≡ snapshot (nodes_of held) want (nodes_of server)
+  pub cut : t ≡ lent (nodes_of held) errand (nodes_of server)

@@ -6,11 +6,11 @@ pub use Rattle.iot_disk.specs.declared.faults.JournalFault.{JournalFault}
 pub use Rattle.iot_durable.specs.Standing.{EachGoes, IsRenewed, Leads, StandWith}
 pub use Rattle.iot_exec.specs.Serial.{Entry, run_entry, tree_from}
 pub use Rattle.iot_machine.specs.Calls.{Call, Nothing, Says, Then, either}
-pub use Rattle.iot_machine.specs.Clients.{snapshot}
 pub use Rattle.iot_machine.specs.Machine.{Commit, add_commit, entries_of, tree_after}
 pub use Rattle.iot_machine.specs.Nodes.{Node, back, changed, doubting, fallen, unopened}
 pub use Rattle.iot_machine.specs.Refining.{Refines}
-pub use Rattle.iot_machine.specs.Serving.{kept_text, server_name, Submission, Lends, Judges}
+pub use Rattle.iot_judging.specs.Errands.{IsErrand, changes_to}
+pub use Rattle.iot_machine.specs.Serving.{kept_text, server_name, Submission, Errand, lent, Lends, Judges}
 pub use Rattle.iot_machine.specs.Stops.{Appends, ArmsDisk, ComesBack, ComesBackWith, Crashes, OpensNode, Restarts, Shows}
 pub use Rattle.iot_machine.specs.Texts.{acts_output, commit_line, kept_line, line, lost_line, rows_text, stopped_line, transaction_name}
 pub use Rattle.iot_node.specs.Disks.{IsEmpty, KeepsDisk, counts_on}
@@ -35,8 +35,7 @@ pub use Rattle.iot_tree.specs.Tree.{IsTree, IsWhole, Nodes, root_alone}
 pub use Rattle.iot_tree.specs.declared.acts.Act.{Act}
 pub use Rattle.iot_tree.specs.declared.labels.Label.{Label}
 pub use Rattle.iot_tree.specs.declared.nodes.Node.TheVariants.{Dir}
-pub use Rattle.iot_tree.specs.declared.want.Want.{Want}
-pub use Rattle.iot_wire.specs.Meanings.{IsRefresh, Spells}
+pub use Rattle.iot_wire.specs.Meanings.{Spells}
 pub use Rattle.iot_wire.specs.Messages.{IsMessage}
 pub use Rattle.iot_wire.specs.Rules.{IsRequest}
 pub use Rattle.iot_wire.specs.Spelling.{request_spelling}

@@ -4,8 +4,8 @@ ghost use Rattle.std.specs.Option.{option_copied};
 ghost use Rattle.iot_disk.specs.declared.faults.JournalFault.TheVariants.{Stopped};
 ghost use Rattle.iot_machine.specs.Texts.{tree_text};
 ghost use Rattle.iot_server_node.specs.Prelude.{Commit, add_commit, tree_after, Node, unopened, doubting, Submission, Lends, Judges};
-ghost use Rattle.iot_server_node.specs.Prelude.{server_name, kept_text, OpensNode, Crashes, Restarts, ArmsDisk, Shows, IsRefresh, IsEmpty};
-ghost use Rattle.iot_server_node.specs.Prelude.{KeepsDisk, counts_on, Lasts, CameIf, StepsTo, Want};
+ghost use Rattle.iot_server_node.specs.Prelude.{server_name, kept_text, OpensNode, Crashes, Restarts, ArmsDisk, Shows, IsEmpty, IsErrand, Errand};
+ghost use Rattle.iot_server_node.specs.Prelude.{KeepsDisk, counts_on, Lasts, CameIf, StepsTo};
 ghost use Rattle.iot_server.specs.Servers as servers;
 ghost use Rattle.iot_server_node.specs.Deciding.{DecidesServer};
 ghost use Rattle.iot_server_node.specs.Keepers.{lists};
@@ -91,12 +91,12 @@ impl<D: Disk> ServerNode<D> {
         requires sound { ServerIsSound D.medium self.old }
         requires request { IsSomeRequest message.now.request.items }
         ensures up { IfOk result (λ served. is_up self.new ≡ is_some served) }
-        ensures lends { IfOk result (λ served. (client : ℕ) (held : Stamps) (want : Want) (names : List (List ℕ))
-            → IsRefresh client held want message.now.request.items
-            → ServesBy D.medium names (Lends (nodes_of held) want) (SpellsCut (stamps_of self.old) held want) message.now.handed
+        ensures lends { IfOk result (λ served. (client : ℕ) (held : Stamps) (errand : Errand) (names : List (List ℕ))
+            → IsErrand client held errand message.now.request.items
+            → ServesBy D.medium names (Lends (nodes_of held) errand) (SpellsCut (stamps_of self.old) held errand) message.now.handed
             served self.old self.new out.old out.new) }
-        ensures stamps { IfOk result (λ served. (client : ℕ) (held : Stamps) (want : Want)
-            → IsRefresh client held want message.now.request.items
+        ensures stamps { IfOk result (λ served. (client : ℕ) (held : Stamps) (errand : Errand)
+            → IsErrand client held errand message.now.request.items
             → IfSome served (λ _. stamps_of self.new ≡ stamps_of self.old)) }
         ensures judges { IfOk result (λ served. (it : Submission) (names : List (List ℕ))
             → IsHanded message.now it → IsNamedIn names it
@@ -104,8 +104,8 @@ impl<D: Disk> ServerNode<D> {
             self.old self.new out.old out.new) }
 
         // If memory runs out, the disk still holds the list of commits, or that and the transaction that was handed in.
-        ensures lends_lasts { IfErr result (λ _. (client : ℕ) (held : Stamps) (want : Want) (names : List (List ℕ)) (n : ℕ)
-            (node : Node (List Commit)) → IsRefresh client held want message.now.request.items
+        ensures lends_lasts { IfErr result (λ _. (client : ℕ) (held : Stamps) (errand : Errand) (names : List (List ℕ)) (n : ℕ)
+            (node : Node (List Commit)) → IsErrand client held errand message.now.request.items
             → ServerStands D.medium names self.old node n → Lasts (lists D.medium) D.medium (post_of self.new) node) }
         ensures judges_lasts { IfErr result (λ _. (it : Submission) (names : List (List ℕ)) (n : ℕ)
             (node : Node (List Commit)) → IsHanded message.now it

@@ -17,8 +17,8 @@ give_up-requires-clause-few g c =
     omega (arith, c.number-before.ensures, ap count_of live.up, few_commits g.D.Disk.medium live.it live.synced)
 
 pub returns-in-Ok-clause-lends : goal.returns-in-Ok-clause-lends
-returns-in-Ok-clause-lends g c client held want names asks =
-    lends g.D.Disk.medium c.args.message.now held asks names (record { reply = c.in-Ok.reply; committed = c.committed_by.result })
+returns-in-Ok-clause-lends g c client held errand names asks =
+    lends g.D.Disk.medium c.args.message.now client held errand asks names (record { reply = c.in-Ok.reply; committed = c.committed_by.result })
     c.requires.sound c.in-Ok.ensures.handled
     (c.committed_by.ensures ∙ (λ i. committed_since (c.number-before.ensures i) (c.number.ensures i)))
 
@@ -29,8 +29,8 @@ returns-in-Ok-clause-judges g c it names hands named =
     (c.committed_by.ensures ∙ (λ i. committed_since (c.number-before.ensures i) (c.number.ensures i)))
 
 pub returns-in_ok-give_up-in-Err-clause-lends : goal.returns-in_ok-give_up-in-Err-clause-lends
-returns-in_ok-give_up-in-Err-clause-lends g c client held want names asks n =
-    absurd (lends_always g.D.Disk.medium c.args.message.now held asks c.in_ok-give_up-in-Err.ensures.stopped c.in-Err.ensures.refused)
+returns-in_ok-give_up-in-Err-clause-lends g c client held errand names asks n =
+    absurd (lends_always g.D.Disk.medium c.args.message.now client held errand asks c.in_ok-give_up-in-Err.ensures.stopped c.in-Err.ensures.refused)
 
 pub returns-in_ok-give_up-in-Err-clause-judges : goal.returns-in_ok-give_up-in-Err-clause-judges
 returns-in_ok-give_up-in-Err-clause-judges g c it names hands named =
@@ -40,8 +40,8 @@ returns-in_ok-give_up-in-Err-clause-judges g c it names hands named =
 pub returns-in_err-give_up-in-Err-clause-lends_lasts : goal.returns-in_err-give_up-in-Err-clause-lends_lasts
 returns-in_err-give_up-in-Err-clause-lends_lasts g c =
     always_err c.from_residual.result
-    (λ halt client held want names n node asks here.
-    lends_lasts g.D.Disk.medium c.args.message.now held asks c.in-Err.fault node c.in-Err.ensures.refused c.give_up.ensures.disk here)
+    (λ halt client held errand names n node asks here.
+    lends_lasts g.D.Disk.medium c.args.message.now client held errand asks c.in-Err.fault node c.in-Err.ensures.refused c.give_up.ensures.disk here)
 
 pub returns-in_err-give_up-in-Err-clause-judges_lasts : goal.returns-in_err-give_up-in-Err-clause-judges_lasts
 returns-in_err-give_up-in-Err-clause-judges_lasts g c =
@@ -63,6 +63,6 @@ returns-in_err-give_up-in-Err-clause-records g c =
     c.requires.sound c.in-Err.ensures.refused c.give_up.ensures.disk
 
 pub returns-in-Ok-clause-stamps : goal.returns-in-Ok-clause-stamps
-returns-in-Ok-clause-stamps g c client held want asks =
-    stays_stamped g.D.Disk.medium c.args.message.now held asks (record { reply = c.in-Ok.reply; committed = c.committed_by.result })
+returns-in-Ok-clause-stamps g c client held errand asks =
+    stays_stamped g.D.Disk.medium c.args.message.now client held errand asks (record { reply = c.in-Ok.reply; committed = c.committed_by.result })
     c.in-Ok.ensures.handled
