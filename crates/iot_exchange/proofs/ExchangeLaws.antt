@@ -1,7 +1,7 @@
 -- An exchange of a client with the server; what a client asks for, and holds if it comes; and what it knows of its transactions.
 use Rattle.std.proofs.Common.{◌≡◌, ℕ, ◌+◌, List, ◌++◌, Option, Some, None, Result, Ok, Err, Bool, true, false, Vec, refl, sym, ap, subst}
 use Rattle.std.proofs.Common.{◌∙◌, []}
-use Rattle.std.proofs.Common.{◌∷◌, ◌<◌, ◌^◌, length, map, arith}
+use Rattle.std.proofs.Common.{◌∷◌, ◌<◌, ◌^◌, length, arith}
 use Rattle.std.proofs.lemmas.Bool.{ltb-true}
 use Rattle.std.specs.Prelude.{IfErr, not, nat_lt}
 use Rattle.std.specs.declared.alloc.Global.{Global}
@@ -13,34 +13,29 @@ use Rattle.iot_link.specs.declared.passages.Loss.TheVariants as losses
 use Rattle.iot_exchange.specs.Words.{has_any, is_full, most_running}
 use Rattle.iot_exchange.specs.Words.{passage, Passage, Away, RequestLost, ReplyLost, Both as Reaches, At, its_server, break}
 use Rattle.iot_exchange.specs.Words.{Handles, exchange_by, Brings, holds, HavingAnswered, ServesBy, Served, Relinked, after_passage, Nodes}
-use Rattle.iot_exchange.specs.Words.{Want, Item, Medium, Call, Declared, ClientState, Client, Commit, Pair, Node, Submission, Lends}
-use Rattle.iot_exchange.specs.Words.{Judges, Exchange, Holds, runs, pends, StepsTo, Halt, IsRefresh, SpellsVerdict, SpellsCut, said_of}
+use Rattle.iot_exchange.specs.Words.{Item, Medium, Call, Declared, ClientState, Client, Commit, Pair, Node, Submission, Lends}
+use Rattle.iot_exchange.specs.Words.{Judges, Exchange, Holds, runs, pends, StepsTo, Halt, IsErrand, Errand, Refresh, base_of, SpellsVerdict, SpellsCut, said_of}
 use Rattle.iot_exchange.specs.Words.{ServerStands, IsHanded, IsNamedIn, is_up, Message, ServerNode, LaptopStands, state_in, waits_of}
-use Rattle.iot_exchange.specs.Words.{Laptop, SpellsTree, BringsTree, AsksAll, FarDir, IsOneMessage, IsReply, IsWhole, Over, NoMemory, Row}
-use Rattle.iot_exchange.specs.Words.{Stamps, TakesStamps, new_client, nodes_of, nothing_held, reply_spelling, root_alone, stamps_in}
+use Rattle.iot_exchange.specs.Words.{Laptop, SpellsTree, BringsTree, AsksAll, IsOneMessage, IsReply, IsWhole, Over, NoMemory}
+use Rattle.iot_exchange.specs.Words.{Stamps, TakesStamps, new_client, nodes_of, nothing_held, reply_spelling, stamps_in}
 use Rattle.iot_exchange.specs.Words.{stamps_of}
 use Rattle.iot_exchange.specs.Pairs.{Both, two, IsAt, UpStands, Query, Objects, Judgment, AsksFor, Spells, request_of, Serves, Exchanges}
 use Rattle.iot_exchange.specs.Pairs.{Asked, IsReady, KeepsDisks, Does, IfReplied, StaysUp}
 use Rattle.iot_exchange.proofs.DoesLaws.{StepsOn, at_as, OfEach, then_does, answers, FollowsNow}
 use Rattle.iot_exchange.proofs.StepsLaws.{bind, gets, asks, then_ends}
-use Rattle.std.specs.FinMap.{entries}
-use Rattle.std.specs.List.{filter_map}
 use Rattle.iot_kept.specs.Bringing.{brought}
 use Rattle.iot_machine.specs.Clients.{snapshot}
 use Rattle.iot_machine.proofs.WholeLaws.{whole_comes}
 use Rattle.iot_server_node.specs.Records.{state_of}
-use Rattle.iot_stamp.specs.Refresh.{known_stamp, known_with_stamps}
-use Rattle.iot_stamp.specs.Stamps.{stamped_node}
-use Rattle.iot_stamp.proofs.MappedLaws.{entries_of_mapped}
+use Rattle.iot_stamp.proofs.CutsLaws.{nothing_sent}
 use Rattle.iot_tree.specs.Tree.{IsTree}
 use Rattle.iot_tree.specs.declared.changes.Changes.{Changes}
 use Rattle.iot_tree.specs.declared.want.Want.TheVariants as wanted
-use Rattle.iot_tree.proofs.RowLaws.{entries_rows, root_map, root_rows}
 use Rattle.iot_wire.proofs.MessagesLaws.{call_one}
 use Rattle.iot_wire.proofs.SpellingLaws.{reply_laws}
 use Rattle.iot_judging.specs.Lists.{Follows}
 use Rattle.iot_judging.proofs.FollowingLaws.{Grows, follows_on}
-use Rattle.iot_exchange.proofs.FollowingLaws.{follows_nothing, follows_refreshed, held_is, makes_cut, nodes_none, up_stamps}
+use Rattle.iot_exchange.proofs.FollowingLaws.{follows_nothing, follows_brought, held_is, makes_cut, nodes_none, nothing_tree, up_stamps}
 
 -- what is so anyhow
 pub on_err : {T E P : Type 0} (r : Result T E) → P → IfErr r (λ _. P)
@@ -52,14 +47,14 @@ on_err (Err e) so = so
 module _ {D : Type 0} (medium : Medium D) (message : Message) (old new : ServerNode D) (x : List ℕ) where
   -- whatever is asked
   pub serves : (served : Option Served) (y : List ℕ)
-      → ((client : ℕ) (held : Stamps) (want : Want) (names : List (List ℕ)) → IsRefresh client held want message.request.items
-      → ServesBy medium names (Lends (nodes_of held) want) (SpellsCut (stamps_of old) held want) message.handed served old new x y)
+      → ((client : ℕ) (held : Stamps) (errand : Errand) (names : List (List ℕ)) → IsErrand client held errand message.request.items
+      → ServesBy medium names (Lends (nodes_of held) errand) (SpellsCut (stamps_of old) held errand) message.handed served old new x y)
       → ((it : Submission) (names : List (List ℕ)) → IsHanded message it → IsNamedIn names it
       → ServesBy medium names (Judges it) (SpellsVerdict it.reads) message.handed served old new x y)
       → (names : List (List ℕ)) (query : Query) → AsksFor names message old query
       → ServesBy medium names (request_of query) (Spells query) message.handed served old new x y
-  serves served y lends judges names (Objects client held server tree want) asked =
-      rw (asked.1, asked.2) (lends client held want names asked.0)
+  serves served y lends judges names (Objects client held server tree errand) asked =
+      rw (asked.1, asked.2) (lends client held errand names asked.0)
   serves served y lends judges names (Judgment it) asked = judges it names asked.0 asked.1
 
   -- it replies, and what it committed is said
@@ -247,22 +242,22 @@ has_room many is = by (nat_lt many most_running) refl is
 
 -- ---- what is held
 
-module _ {D : Type 0} {medium : Medium D} {scripts : List Declared} {u v : Both D} {x y : List ℕ} (want : Want) where
+module _ {D : Type 0} {medium : Medium D} {scripts : List Declared} {u v : Both D} {x y : List ℕ} (errand : Errand) where
   brings : {names : List (List ℕ)} {c : ℕ} {o : Option Nodes}
-      → StepsOn medium scripts names c (Exchange (Lends (state_in u.laptop).held want)) u v x y o
-      → StepsOn medium scripts names c (Brings want) u v x y o
+      → StepsOn medium scripts names c (Exchange (Lends (state_in u.laptop).held errand)) u v x y o
+      → StepsOn medium scripts names c (Brings errand) u v x y o
   brings it = bind (asks (λ pair here. here.client.is.state.held)) it
 
   -- nothing came
   pub missed : (change : Nodes → ClientState → ClientState) → ((names : List (List ℕ)) (c : ℕ)
-      → StepsOn medium scripts names c (Exchange (Lends (state_in u.laptop).held want)) u v x y None)
-      → KeepsDisks medium u v → Does medium scripts (Holds change want) u v x y (Ok false)
+      → StepsOn medium scripts names c (Exchange (Lends (state_in u.laptop).held errand)) u v x y None)
+      → KeepsDisks medium u v → Does medium scripts (Holds change errand) u v x y (Ok false)
   missed change none keeps = then_does {next = holds change} (λ names c. brings (none names c)) keeps (answers keeps)
 
 -- what an asking client and the server are after an exchange with a reply: the client as it was, and the server up
 pub record Replied {D : Type 0} (message : Message) (u v : Both D) : Type 0 where
   pub same : v.laptop ≡ u.laptop
-  pub lends : (client : ℕ) (held : Stamps) (want : Want) → IsRefresh client held want message.request.items
+  pub lends : (client : ℕ) (held : Stamps) (errand : Errand) → IsErrand client held errand message.request.items
       → StaysUp u.server v.server
 
 -- the reply makes one tree of a held one
@@ -273,19 +268,19 @@ same_tree {held} {bytes} short one other =
     let same : one.changes ≡ other.changes = let objects = only _ _ one.spelled other.spelled in cc in
     one.is ∙ ap (λ (changes : Changes). nodes_of (brought held changes)) same ∙ sym other.is
 
-module _ {D : Type 0} {medium : Medium D} (client : ℕ) (held : Stamps) (tree : Nodes) (want : Want) {message : Message}
-    {u v : Both D} (is : IsRefresh client held want message.request.items)
+module _ {D : Type 0} {medium : Medium D} (client : ℕ) (held : Stamps) (tree : Nodes) (errand : Errand) {message : Message}
+    {u v : Both D} (is : IsErrand client held errand message.request.items)
     (tree_is : tree ≡ nodes_of held) (replied : Replied message u v)
     (holds_there : (scripts : List Declared) (names : List (List ℕ)) (c : ℕ) (pair : Pair) → UpStands medium scripts names c v pair
     → Follows held pair.server.durable × IsTree (nodes_of held)) where
   abbrev asks_for : Query
-  asks_for = Objects client held (stamps_of u.server) tree want
+  asks_for = Objects client held (stamps_of u.server) tree errand
 
   -- its stamps are those of each list for which it stands then
   its_stamps : (scripts : List Declared) (names : List (List ℕ)) (c : ℕ) (pair : Pair) → UpStands medium scripts names c v pair
       → stamps_of u.server ≡ (state_of pair.server.durable).stamps
   its_stamps scripts names c pair here =
-      let stays = replied.lends client held want is in
+      let stays = replied.lends client held errand is in
       sym stays.stamps ∙ up_stamps medium names v.server pair.server pair.requests stays.up here.server
 
   module _ {reply : Vec ℕ Global} {x y : List ℕ} (ready : IsReady medium u)
@@ -295,22 +290,22 @@ module _ {D : Type 0} {medium : Medium D} (client : ℕ) (held : Stamps) (tree :
     first = ((asked ready.scripts).is ready.names ready.c asks_for (is, refl, tree_is)).is
 
     -- what the reply spells makes a tree of what is held
-    pub spells_tree : {t : Nodes} → SpellsCut (stamps_of u.server) held want reply.items t → SpellsTree held reply.items t
+    pub spells_tree : {t : Nodes} → SpellsCut (stamps_of u.server) held errand reply.items t → SpellsTree (base_of held errand) reply.items t
     spells_tree cut =
         let s = first.2.step ready.pair ready.stands in
         let there = holds_there ready.scripts ready.names ready.c s.1 s.4 in
-        makes_cut held s.1.server.durable (stamps_of u.server) want reply.items _ there.0 there.1
+        makes_cut held s.1.server.durable (stamps_of u.server) errand reply.items _ there.0 there.1
         (its_stamps ready.scripts ready.names ready.c s.1 s.4) cut
 
-    pub brings_tree : BringsTree held reply.items
+    pub brings_tree : BringsTree (base_of held errand) reply.items
     brings_tree = record { tree = first.0; is = spells_tree first.1 }
 
     -- then what is held still follows the server's list
     pub still_after : (scripts : List Declared) (names : List (List ℕ)) (c : ℕ) (pair : Pair) → UpStands medium scripts names c v pair
-        → Follows (brought held brings_tree.is.changes) pair.server.durable
+        → Follows (brought (base_of held errand) brings_tree.is.changes) pair.server.durable
     still_after scripts names c pair here =
         let there = holds_there scripts names c pair here in
-        follows_refreshed held pair.server.durable (stamps_of u.server) want reply.items first.0 there.0 there.1
+        follows_brought held pair.server.durable (stamps_of u.server) errand reply.items first.0 there.0 there.1
         (its_stamps scripts names c pair here) first.1 brings_tree.is.changes
         (omega (arith, reply.ok, reply.small)) brings_tree.is.spelled
 
@@ -327,40 +322,41 @@ module _ {D : Type 0} {medium : Medium D} {message : Message} {reply : Vec ℕ G
         (subst IsTree (held_is v.laptop.post) here.client.is.state.tree),
   )
 
-  module _ (client : ℕ) (want : Want) (is : IsRefresh client (stamps_in u.laptop) want message.request.items) where
+  module _ (client : ℕ) (errand : Errand) (is : IsErrand client (stamps_in u.laptop) errand message.request.items) where
     -- the reply makes a tree of it
-    pub brings_own : BringsTree (stamps_in v.laptop) reply.items
+    pub brings_own : BringsTree (base_of (stamps_in v.laptop) errand) reply.items
     brings_own =
-        subst (λ (laptop : Laptop D). BringsTree (stamps_in laptop) reply.items) (sym replied.same)
-        (brings_tree client (stamps_in u.laptop) (state_in u.laptop).held want is (held_is u.laptop.post) replied own_there ready asked)
+        subst (λ (laptop : Laptop D). BringsTree (base_of (stamps_in laptop) errand) reply.items) (sym replied.same)
+        (brings_tree client (stamps_in u.laptop) (state_in u.laptop).held errand is (held_is u.laptop.post) replied own_there ready asked)
 
     -- which is held, ..
     pub came : {scripts : List Declared} (change : Nodes → ClientState → ClientState) {w : Both D} {z : List ℕ} {result : Result Bool Halt}
         → KeepsDisks medium u w
-        → ((t : Nodes) → SpellsTree (stamps_in v.laptop) reply.items t → Does medium scripts (holds change (Some t)) v w y z result)
-        → Does medium scripts (Holds change want) u w x z result
+        → ((t : Nodes) → SpellsTree (base_of (stamps_in v.laptop) errand) reply.items t
+        → Does medium scripts (holds change (Some t)) v w y z result)
+        → Does medium scripts (Holds change errand) u w x z result
     came {scripts} change keeps each = record {
       step = λ names c.
-          let e = ((asked scripts).is names c (Objects client (stamps_in u.laptop) (stamps_of u.server) (state_in u.laptop).held want)
+          let e = ((asked scripts).is names c (Objects client (stamps_in u.laptop) (stamps_of u.server) (state_in u.laptop).held errand)
           (is, refl, held_is u.laptop.post)).is in
-          let spells = spells_tree client (stamps_in u.laptop) (state_in u.laptop).held want is (held_is u.laptop.post) replied own_there
+          let spells = spells_tree client (stamps_in u.laptop) (state_in u.laptop).held errand is (held_is u.laptop.post) replied own_there
           ready asked e.1 in
-          then_ends {next = holds change} (brings want e.2)
+          then_ends {next = holds change} (brings errand e.2)
           ((each e.0
-          (subst (λ (laptop : Laptop D). SpellsTree (stamps_in laptop) reply.items e.0) (sym replied.same) spells)).step names c);
+          (subst (λ (laptop : Laptop D). SpellsTree (base_of (stamps_in laptop) errand) reply.items e.0) (sym replied.same) spells)).step names c);
       disks = keeps;
     }
 
     -- .. and goes on following the server's list
     pub takes : (scripts : List Declared) (new : Laptop D) (result : Result (Unit {0}) Halt)
-        → TakesStamps reply.items v.laptop new result → FollowsNow medium scripts v new result
+        → TakesStamps (base_of (stamps_in v.laptop) errand) reply.items v.laptop new result → FollowsNow medium scripts v new result
     takes scripts new (Ok done) takes_it = λ names c pair here.
-        let own = brings_tree client (stamps_in u.laptop) (state_in u.laptop).held want is (held_is u.laptop.post) replied own_there ready
+        let own = brings_tree client (stamps_in u.laptop) (state_in u.laptop).held errand is (held_is u.laptop.post) replied own_there ready
         asked in
         subst (λ (now : Stamps). Follows now pair.server.durable)
         (sym (takes_it own.is.changes own.is.spelled
-        ∙ ap (λ (laptop : Laptop D). brought (stamps_in laptop) own.is.changes) replied.same))
-        (still_after client (stamps_in u.laptop) (state_in u.laptop).held want is (held_is u.laptop.post) replied own_there ready asked
+        ∙ ap (λ (laptop : Laptop D). brought (base_of (stamps_in laptop) errand) own.is.changes) replied.same))
+        (still_after client (stamps_in u.laptop) (state_in u.laptop).held errand is (held_is u.laptop.post) replied own_there ready asked
         scripts names c pair here)
     takes scripts new (Err NoMemory) takes_it = tt
     takes scripts new (Err Over) takes_it = λ names c pair here.
@@ -368,35 +364,30 @@ module _ {D : Type 0} {medium : Medium D} {message : Message} {reply : Vec ℕ G
 
 -- ---- the server's whole tree
 
--- what is known of nothing
-none_known : known_with_stamps nothing_held ≡ []
-none_known =
-    ap (filter_map known_stamp)
-    (entries_of_mapped (λ p node. stamped_node node 0) (root_alone FarDir)
-    ∙ ap (map (λ (row : Row). (row.0, stamped_node row.1 0)))
-    (ap entries (sym (root_map FarDir)) ∙ entries_rows (([], FarDir) ∷ []) refl))
+abbrev pub whole_errand : Errand
+whole_errand = Refresh (wanted.Below [])
 
 pub asks_whole : {D : Type 0} {laptop : Laptop D} {item : Item} {request : List ℕ} → AsksAll laptop item request
-    → IsRefresh laptop.place nothing_held (wanted.Below []) request
-asks_whole asks = rw none_known asks.asked
+    → IsErrand laptop.place nothing_held whole_errand request
+asks_whole asks = rw nothing_sent asks.asked
 
 -- the query for it
 abbrev pub whole_query : {D : Type 0} → Laptop D → ServerNode D → Query
-whole_query laptop server = Objects laptop.place nothing_held (stamps_of server) new_client.held (wanted.Below [])
+whole_query laptop server = Objects laptop.place nothing_held (stamps_of server) new_client.held whole_errand
 
 module _ {D : Type 0} {medium : Medium D} {message : Message} {reply : Vec ℕ Global} {u v : Both D} {x y : List ℕ}
     (ready : IsReady medium u) (asked : (scripts : List Declared) → Asked medium scripts message (Some reply) u v x y)
-    (replied : Replied message u v) (asks : IsRefresh u.laptop.place nothing_held (wanted.Below []) message.request.items) where
+    (replied : Replied message u v) (asks : IsErrand u.laptop.place nothing_held whole_errand message.request.items) where
   nothing_there : (scripts : List Declared) (names : List (List ℕ)) (c : ℕ) (pair : Pair) → UpStands medium scripts names c v pair
       → Follows nothing_held pair.server.durable × IsTree (nodes_of nothing_held)
   nothing_there scripts names c pair here =
-      (follows_nothing pair.server.durable, subst IsTree (sym nodes_none) (subst IsTree (root_map FarDir) (root_rows FarDir refl).tree))
+      (follows_nothing pair.server.durable, nothing_tree)
 
   -- the reply makes it of nothing
-  pub spells_whole : {t : Nodes} → SpellsCut (stamps_of u.server) nothing_held (wanted.Below []) reply.items t
+  pub spells_whole : {t : Nodes} → SpellsCut (stamps_of u.server) nothing_held whole_errand reply.items t
       → SpellsTree nothing_held reply.items t
   spells_whole =
-      spells_tree u.laptop.place nothing_held new_client.held (wanted.Below []) asks (sym nodes_none) replied nothing_there ready asked
+      spells_tree u.laptop.place nothing_held new_client.held whole_errand asks (sym nodes_none) replied nothing_there ready asked
 
   pub whole_came : BringsTree nothing_held reply.items × ((t : Nodes) → SpellsTree nothing_held reply.items t → IsWhole t)
   whole_came =

@@ -32,7 +32,7 @@ use Rattle.iot_exchange.specs.Words.{IsByHand, Medium, Try, Asks, Then, Declared
 use Rattle.iot_exchange.specs.Words.{transaction_name, manual_line, resolve_line, Syncs, Verdict, Conflict, Halt, Over, Transaction}
 use Rattle.iot_exchange.specs.Words.{Message, waits_of, head_name, HandsIn, AsksAll, ItemsStand, state_in, LaptopStands, name_of}
 use Rattle.iot_exchange.specs.Words.{SpellsVerdict, told_change, SpellsTree, option_named, script_named, HasNamed, Laptop, ServerNode}
-use Rattle.iot_exchange.specs.Words.{nothing_held}
+use Rattle.iot_exchange.specs.Words.{nothing_held, Refresh}
 use Rattle.iot_exchange.proofs.ExchangeLaws.{Replied, asks_whole, spells_whole, whole_query}
 use Rattle.iot_exchange.proofs.FollowingLaws.{nodes_none}
 use Rattle.iot_exchange.specs.Pairs.{Both, two, UpStands, KeepsDisks, Objects, Judgment, MissesAll, Does, AsksFor, Asked, IsReady}
@@ -205,7 +205,7 @@ module _ {D : Type 0} {medium : Medium D} {scripts : List Declared} {names : Lis
           → DoesFrom medium scripts names c (sync_at head.first ms) pair new x z (Ok Unanswered)
       misses_at conflict not_manual planned misses wrote =
           let p = planned refl in
-          resolves_at refl p.1 (then_from here (misses.none (Objects 0 nothing_held nothing_held new_client.held (wanted.Below [])) x)
+          resolves_at refl p.1 (then_from here (misses.none (Objects 0 nothing_held nothing_held new_client.held (Refresh (wanted.Below []))) x)
           (says (λ pair here. wrote)))
       misses_at manual not_manual planned misses wrote = absurd (not_manual refl)
       misses_at same not_manual planned misses wrote =

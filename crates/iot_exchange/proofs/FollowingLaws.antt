@@ -2,12 +2,15 @@
 use Rattle.std.proofs.Common.{◌≡◌, ◌<◌, ◌+◌, ◌^◌, ℕ, true, List, ◌++◌, length, Option, refl, sym, ap, subst, ◌∙◌, rules}
 use Rattle.iot_tree.specs.Tree.{IsTree}
 use Rattle.iot_tree.specs.declared.changes.Changes.{Changes}
-use Rattle.iot_held.proofs.OutcomeLaws.{refresh_is, refresh_tree}
+use Rattle.iot_tree.specs.Snapshots.{has}
+use Rattle.iot_tree.proofs.RowLaws.{root_map, root_rows}
+use Rattle.iot_hoard.specs.Picking.{picked}
+use Rattle.iot_held.proofs.OutcomeLaws.{cut_is as merged_is, cut_tree as merged_tree}
 use Rattle.iot_kept.specs.Bringing.{brought}
-use Rattle.iot_stamp.specs.Agreement.{Agrees, IsPositive, IsRefresh as IsRefreshOf, UpTo}
-use Rattle.iot_stamp.specs.Refresh.{asked, changes_for, known_with_stamps}
-use Rattle.iot_stamp.specs.Stamps.{pruned}
+use Rattle.iot_stamp.specs.Agreement.{Agrees, IsCutTo, IsPositive, UpTo}
+use Rattle.iot_stamp.specs.Stamps.{FarZero, pruned}
 use Rattle.iot_stamp.proofs.AgreementLaws.{agrees_pruned, far_zero_pruned, up_pruned}
+use Rattle.iot_stamp.proofs.CutsLaws.{refresh_cut, walk_cut}
 use Rattle.iot_stamp.proofs.StampsLaws.{nodes_with}
 use Rattle.iot_wire.proofs.MessagesLaws.{call_one}
 use Rattle.iot_wire.proofs.SpellingLaws.{reply_laws}
@@ -20,15 +23,16 @@ use Rattle.iot_laptop.specs.declared.seated.Seated.{Seated}
 use Rattle.iot_judging.proofs.ListsLaws.{list_stamped}
 use Rattle.iot_judging.specs.Lists.{state_of, Follows}
 use Rattle.iot_exchange.specs.Words.{Commit, FarDir, IsOneMessage, IsReply, Medium, Node, Nodes, ServerNode, ServerStands, SpellsCut}
-use Rattle.iot_exchange.specs.Words.{SpellsTree, Stamps, Want, is_up, nodes_of, nothing_held, reply_spelling, root_alone, stamps_of}
+use Rattle.iot_exchange.specs.Words.{SpellsTree, Stamps, is_up, nodes_of, nothing_held, reply_spelling, root_alone, stamps_of}
+use Rattle.iot_exchange.specs.Words.{Errand, Refresh, Walk, base_of, changes_to, paths_for}
 use Rattle.iot_exchange.specs.Pairs.{Query, Objects, Judgment, request_of, Answered}
-use Rattle.iot_judging.proofs.FollowingLaws.{Grows, stays, judged_grows, cut_is}
+use Rattle.iot_judging.proofs.FollowingLaws.{Grows, stays, judged_grows, lent_is}
 use Rattle.iot_wire.specs.declared.replies.Reply.TheVariants as replies
 
 -- so it is after each request
 pub grows : (query : Query) (node after : Node (List Commit)) (text : List ℕ) (a : Option (Answered query))
     → request_of query node text a after → Grows node.durable after.durable
-grows (Objects client held server tree want) node after text a step =
+grows (Objects client held server tree errand) node after text a step =
     stays node.durable after.durable (ap (λ (n : Node (List Commit)). n.durable) step.2)
 grows (Judgment it) node after text a step =
     let more = judged_grows it step.answer step.mid after step.rest a step.second in
@@ -47,6 +51,9 @@ held_is (Up seated) = refl
 held_is (Down fallen) = sym nodes_none
 held_is Between = sym nodes_none
 
+pub nothing_tree : IsTree (nodes_of nothing_held)
+nothing_tree = subst IsTree (sym nodes_none) (subst IsTree (root_map FarDir) (root_rows FarDir refl).tree)
+
 -- ---- what the server sends
 
 -- a live server's stamps are those of its list
@@ -54,47 +61,61 @@ pub up_stamps : {D : Type 0} (medium : Medium D) (names : List (List ℕ)) (serv
     → is_up server ≡ true → ServerStands medium names server node n → stamps_of server ≡ (state_of node.durable).stamps
 up_stamps medium names server node n up here = search rules
 
-module _ (held : Stamps) (commits : List Commit) (server : Stamps) (want : Want) (bytes : List ℕ) (t : Nodes)
+module _ (held : Stamps) (commits : List Commit) (server : Stamps) (errand : Errand) (bytes : List ℕ) (t : Nodes)
     (follows : Follows held commits) (tree : IsTree (nodes_of held)) (is : server ≡ (state_of commits).stamps)
-    (cut : SpellsCut server held want bytes t) where
-  abbrev sent : Changes
-  sent = changes_for server (known_with_stamps held) want
+    (cut : SpellsCut server held errand bytes t) where
+  positive : IsPositive server
+  positive = subst IsPositive (sym is) (list_stamped commits).positive
 
-  refreshes : IsRefreshOf held server want sent.rows sent.gone
-  refreshes = record {
+  -- what is sent for it
+  cuts : (errand : Errand)
+      → IsCutTo (base_of held errand) server (paths_for server held errand) (changes_to server held errand).rows
+      (changes_to server held errand).gone
+  cuts (Refresh want) = refresh_cut held server want _ _ (record {
     tree = cut.tree;
     whole = cut.whole;
     agrees = subst (Agrees held) (sym is) follows.agrees;
     rows_are = refl;
     gone_are = refl;
-  }
+  })
+  cuts (Walk profile limit) = walk_cut server (has (picked (nodes_of server) profile limit)) cut.tree cut.whole positive
 
-  merges : brought held sent ≡ pruned server (asked server (known_with_stamps held) want)
-  merges = refresh_is held server want sent.rows sent.gone tree follows.far refreshes
+  base_tree : (errand : Errand) → IsTree (nodes_of (base_of held errand))
+  base_tree (Refresh want) = tree
+  base_tree (Walk profile limit) = nothing_tree
 
-  -- merged into the held tree it makes the server's tree, cut down to what is known and wanted
-  pub makes_cut : SpellsTree held bytes t
+  base_far : (errand : Errand) → FarZero (base_of held errand)
+  base_far (Refresh want) = follows.far
+  base_far (Walk profile limit) = (follows_nothing commits).far
+
+  merges : brought (base_of held errand) (changes_to server held errand) ≡ pruned server (paths_for server held errand)
+  merges = merged_is (base_of held errand) server (paths_for server held errand) _ _ (base_tree errand) (base_far errand) (cuts errand)
+
+  -- merged into its base it makes the server's tree, cut down to the paths of the errand
+  pub makes_cut : SpellsTree (base_of held errand) bytes t
   makes_cut =
-      let made : t ≡ nodes_of (brought held sent) = cut.cut ∙ cut_is held server want ∙ sym (ap nodes_of merges) in
+      let made : t ≡ nodes_of (brought (base_of held errand) (changes_to server held errand)) =
+      cut.cut ∙ lent_is held server errand ∙ sym (ap nodes_of merges) in
       record {
-        changes = sent;
+        changes = changes_to server held errand;
         spelled = cut.spelled;
         is = made;
-        tree = subst IsTree (sym made) (refresh_tree held server want sent.rows sent.gone tree follows.far refreshes);
+        tree = subst IsTree (sym made)
+            (merged_tree (base_of held errand) server (paths_for server held errand) _ _ (base_tree errand) (base_far errand)
+            (cuts errand));
       }
 
   -- and what is held then follows the list, too
-  pub follows_refreshed : (changes : Changes) → length bytes < 2 ^ 64 → SpellsReply bytes (replies.Objects changes)
-      → Follows (brought held changes) commits
-  follows_refreshed changes short spells =
+  pub follows_brought : (changes : Changes) → length bytes < 2 ^ 64 → SpellsReply bytes (replies.Objects changes)
+      → Follows (brought (base_of held errand) changes) commits
+  follows_brought changes short spells =
       let one : IsOneMessage IsReply reply_spelling bytes = call_one _ _ _ reply_laws bytes short in
-      let same : changes ≡ sent = let objects = one _ _ spells cut.spelled in cc in
-      let k = asked server (known_with_stamps held) want in
+      let same : changes ≡ changes_to server held errand = let objects = one _ _ spells cut.spelled in cc in
+      let k = paths_for server held errand in
       let stamped = list_stamped commits in
-      subst (λ (now : Stamps). Follows now commits) (sym (ap (brought held) same ∙ merges))
+      subst (λ (now : Stamps). Follows now commits) (sym (ap (brought (base_of held errand)) same ∙ merges))
       (record {
         far = far_zero_pruned server k;
-        agrees =
-            subst (Agrees (pruned server k)) is (agrees_pruned server k (subst IsPositive (sym is) stamped.positive));
+        agrees = subst (Agrees (pruned server k)) is (agrees_pruned server k positive);
         within = up_pruned server k (length commits + 1) (subst (λ (s : Stamps). UpTo s (length commits + 1)) (sym is) stamped.within);
       })

@@ -4,3 +4,4 @@ pub mod Pairs
 pub mod Queues
 pub mod Ending
 pub mod Saying
+pub mod Errands

@@ -3,7 +3,7 @@ use Rattle.std.specs.declared.alloc.Global.{Global}
 use Rattle.iot_tree.specs.declared.labels.OnConflict.{OnConflict}
 use Rattle.iot_node.specs.Steps.{Ends}
 use Rattle.std.specs.Prelude.{◌+◌, ◌≡◌, ◌≤◌}
-use Rattle.iot_exchange.specs.Words.{Option, Vec, ℕ, List, None, Some, Result, slice_get, Medium, Nodes, Want, IsRefresh, Call, Try}
+use Rattle.iot_exchange.specs.Words.{Option, Vec, ℕ, List, None, Some, Result, slice_get, Medium, Nodes, Want, IsRefresh, Call, Try, Errand, IsErrand}
 use Rattle.iot_exchange.specs.Words.{Declared, Client, Commit, Pair, Node, Submission, Verdict, Lends, Judges, Exchange, KeepsDisk, StepsTo}
 use Rattle.iot_exchange.specs.Words.{Halt, SpellsVerdict, SpellsCut, KeepsRecords, ServerStands, IsHanded, IsNamedIn, disk_of, Message}
 use Rattle.iot_exchange.specs.Words.{ServerNode, Stands, LaptopStands, ClientStands, disk_in, Laptop, Stamps, nodes_of, is_up, stamps_in}
@@ -97,29 +97,29 @@ pub record Does {D A : Type 0} (medium : Medium D) (scripts : List Declared) (ca
 
 -- ---- exchanges
 
--- what is asked of the server: what changed of its tree, of what is known and wanted, or its verdict on a transaction
+-- what is asked of the server: what its tree has for an errand, or its verdict on a transaction
 pub data Query : Type 0 where
-  Objects : (client : ℕ) → (held server : Stamps) → (tree : Nodes) → Want → Query
+  Objects : (client : ℕ) → (held server : Stamps) → (tree : Nodes) → Errand → Query
   Judgment : Submission → Query
 
 abbrev pub Answered : Query → Type 0
-Answered (Objects client held server tree want) = Nodes
+Answered (Objects client held server tree errand) = Nodes
 Answered (Judgment it) = Verdict
 
 -- what the machine's server does with it
 abbrev pub request_of : (query : Query) → Call (Node (List Commit)) (Option (Answered query))
-request_of (Objects client held server tree want) = Lends tree want
+request_of (Objects client held server tree errand) = Lends tree errand
 request_of (Judgment it) = Judges it
 
 -- what a reply says
 abbrev pub Spells : (query : Query) → List ℕ → Answered query → Type 0
-Spells (Objects client held server tree want) = SpellsCut server held want
+Spells (Objects client held server tree errand) = SpellsCut server held errand
 Spells (Judgment it) = SpellsVerdict it.reads
 
 -- the message asks this of the server, where the clients have these names
 abbrev pub AsksFor : {D : Type 0} → List (List ℕ) → Message → ServerNode D → Query → Type 0
-AsksFor names message node (Objects client held server tree want) =
-    IsRefresh client held want message.request.items × (server ≡ stamps_of node) × (tree ≡ nodes_of held)
+AsksFor names message node (Objects client held server tree errand) =
+    IsErrand client held errand message.request.items × (server ≡ stamps_of node) × (tree ≡ nodes_of held)
 AsksFor names message node (Judgment it) = IsHanded message it × IsNamedIn names it
 
 -- what is so of the answer, if the reply spells one, and of none, if no reply came
@@ -165,7 +165,7 @@ pub record StaysUp {D : Type 0} (old new : ServerNode D) : Type 0 where
 abbrev pub LendsIfReplied : {D : Type 0} → Message → Option (Vec ℕ Global) → ServerNode D → ServerNode D → Type 0
 LendsIfReplied message None old new = Unit {0}
 LendsIfReplied message (Some reply) old new =
-    (client : ℕ) (held : Stamps) (want : Want) → IsRefresh client held want message.request.items → StaysUp old new
+    (client : ℕ) (held : Stamps) (errand : Errand) → IsErrand client held errand message.request.items → StaysUp old new
 
 -- whatever is asked, no reply comes
 pub record MissesAll {D : Type 0} (medium : Medium D) (scripts : List Declared) (names : List (List ℕ)) (c : ℕ) (old new : Both D) : Type

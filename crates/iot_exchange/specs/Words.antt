@@ -2,6 +2,7 @@
 pub use Rattle.std.specs.Prelude.{Bool, Err, IfErr, IfOk, IfSome, List, None, Ok, OnOk, Option, Result, Some, Vec, [], codes, false, leb}
 pub use Rattle.std.specs.Prelude.{length, map, slice_get, true, ℕ}
 pub use Rattle.iot_text.specs.Paths.{path_cmp}
+pub use Rattle.iot_tree.specs.Profiles.{IsProfile, IsWalkLimit, Profile}
 pub use Rattle.iot_tree.specs.Snapshots.{is_known, known, paths_where}
 pub use Rattle.iot_tree.specs.Tree.{IsWhole, Nodes, Path, Row, root_alone}
 pub use Rattle.iot_tree.specs.declared.acts.Read.{Read}
@@ -27,16 +28,17 @@ pub use Rattle.iot_queue.specs.declared.items.Stage.{Stage}
 pub use Rattle.iot_kept.specs.Changes.{HeadIs, IsByHand, IsInConflict, IsSubmitted, IsSubmittedIn}
 pub use Rattle.iot_kept.specs.Memory.{classes_of, transaction, transactions}
 pub use Rattle.iot_kept.specs.States.{State}
-pub use Rattle.iot_stamp.specs.Stamps.{Stamps, nodes_of}
+pub use Rattle.iot_stamp.specs.Stamps.{Stamps, nodes_of, nothing_held}
 pub use Rattle.iot_wire.specs.Meanings.{IsRefresh}
 pub use Rattle.iot_wire.specs.Messages.{IsOneMessage}
 pub use Rattle.iot_wire.specs.Rules.{IsReply}
 pub use Rattle.iot_wire.specs.Spelling.{reply_spelling}
 pub use Rattle.iot_client.specs.Calls.{is_over_if_any, live_numbered, may_end_if_any}
-pub use Rattle.iot_client.specs.Messages.{nothing_held, way_of}
+pub use Rattle.iot_client.specs.Messages.{way_of}
 pub use Rattle.iot_client.specs.Ties.{Live}
 pub use Rattle.iot_client.specs.declared.steps.Step.{Step}
 pub use Rattle.iot_inspect.specs.declared.waiting.RunLine.{RunLine}
+pub use Rattle.iot_judging.specs.Errands.{IsErrand, base_of, changes_to, paths_for}
 pub use Rattle.iot_judging.specs.Verdicts.{SpellsVerdict}
 pub use Rattle.iot_machine.specs.Calls.{Answers, Asks, At, Call, Gets, Goes, OrSays, Repeats, Tells, Then, Try, Whole, either, or_text}
 pub use Rattle.iot_machine.specs.Calls.{unless_over}
@@ -45,17 +47,17 @@ pub use Rattle.iot_machine.specs.Clients.{begin}
 pub use Rattle.iot_machine.specs.Clients.{end, fetch, hold, leave, local_run, meant, most_running, new_client, next_away, next_by}
 pub use Rattle.iot_machine.specs.Clients.{next_step}
 pub use Rattle.iot_machine.specs.Clients.{plan_by, plan_of, reach, repair, resolution_of, so_far}
-pub use Rattle.iot_machine.specs.Events.{BeginsAloud, Closes, Discards, Drains, Hoards, IfUp, ReadsOf, Refreshes, Repairs, Runs, StepsAloud}
+pub use Rattle.iot_machine.specs.Events.{BeginsAloud, Closes, Discards, Drains, Hoards, IfUp, ReadsOf, Refreshes, Repairs, Runs, StepsAloud, Walks}
 pub use Rattle.iot_machine.specs.Events.{begin_text, chosen, is_drained, place_text, run_line, run_steps, running_in, runs_through}
 pub use Rattle.iot_machine.specs.Events.{says_reads, step_text, task_part}
 pub use Rattle.iot_machine.specs.Machine.{Client, Commit, Pair, break, is_first, its_server, kept, no_script, script_at}
 pub use Rattle.iot_machine.specs.Nodes.{Node}
 pub use Rattle.iot_machine.specs.Options.{OnConflict}
 pub use Rattle.iot_machine.specs.Recorded.{items_kept, queue_kept, stage_kept}
-pub use Rattle.iot_machine.specs.Serving.{Conflict, Judges, Lends, Settled, Submission, Verdict}
+pub use Rattle.iot_machine.specs.Serving.{Conflict, Errand, Judges, Lends, Refresh, Settled, Submission, Verdict, Walk, lent}
 pub use Rattle.iot_machine.specs.Sound.{CanResolve, IsPlanned}
 pub use Rattle.iot_machine.specs.Texts.{abort_line, again_line, begin_line, conflict_line, discard_line, end_line, fetch_line, hoard_line}
-pub use Rattle.iot_machine.specs.Texts.{line}
+pub use Rattle.iot_machine.specs.Texts.{line, walk_line}
 pub use Rattle.iot_machine.specs.Texts.{manual_line, pending_line, question_text, queue_text, refresh_line, repair_line, resolve_line}
 pub use Rattle.iot_machine.specs.Texts.{settled_line, step_line, transaction_name}
 pub use Rattle.iot_machine.specs.Transactions.{Begins, Brings, Compared, Compares, Differs, Ended, Ends, Exchange, Handles, Holds, IfManual}
@@ -81,7 +83,7 @@ pub use Rattle.iot_server_node.specs.declared.server.Served.{Served}
 pub use Rattle.iot_server_node.specs.declared.server.ServerNode.{ServerNode}
 pub use Rattle.iot_laptop.specs.Alone.{CertifiesAlone, ComparesAlone, NotesAlone, StartsAlone, YieldsAlone, YieldsAndNotes, certify_alone}
 pub use Rattle.iot_laptop.specs.Alone.{change_by, notes_found, set_class, yielding, yields_by}
-pub use Rattle.iot_laptop.specs.Calls.{AsksAll, EndsAlone, HandsIn, IsDoneIn, IsEndOf, IsGoneIfAny, IsHeadPlan, IsNext, NextIs, Plans}
+pub use Rattle.iot_laptop.specs.Calls.{AsksAll, Changes, EndsAlone, HandsIn, IsDoneIn, IsEndOf, IsGoneIfAny, IsHeadPlan, IsNext, NextIs, Plans}
 pub use Rattle.iot_standing.specs.States.{IsOver, IsUnended}
 pub use Rattle.iot_laptop.specs.Calls.{TakesStep, acts_in, compared, compared_if, decision, decision_on, done, head_name, head_reads}
 pub use Rattle.iot_standing.specs.States.{head_option, head_plan}

@@ -3,6 +3,7 @@
 
 mod decisions;
 mod declared;
+mod errand;
 mod exchange;
 mod looking;
 mod objects;

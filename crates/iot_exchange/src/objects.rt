@@ -1,18 +1,21 @@
 //! What a client asks of the server: objects, over its link.
-ghost use Rattle.std.specs.Prelude.{◌≡◌};
+ghost use Rattle.std.specs.Prelude.{◌≡◌, ◌≤◌};
 ghost use Rattle.iot_exchange.specs.Words.{IsFirst, Hoards, Takes, List, [], IfOk, IsRefresh, stamps_in, state_in, Declared};
-ghost use Rattle.iot_exchange.specs.Words.{hold, fetch};
-ghost use Rattle.iot_exchange.specs.Words.{Refreshes, Holds, Want as Wanted};
+ghost use Rattle.iot_exchange.specs.Words.{hold, fetch, Nodes, OnOk, KeepsDisk, disk_in, SamePlace, Stands, TakesStamps};
+ghost use Rattle.iot_exchange.specs.Words.{Refreshes, Holds, Want as Wanted, Walks, IsProfile, IsWalkLimit, IsErrand, Refresh, base_of};
+ghost use Rattle.iot_exchange.specs.Words.{BringsTree, SpellsTree, Changes};
+ghost use Rattle.iot_exchange.specs.Errands.{errand_of, MayAsk};
 ghost use Rattle.iot_exchange.specs.Pairs.{two, IsReady, IsAsked, Does};
 
+use crate::errand::Errand;
 use crate::exchange::{exchange, miss};
-use crate::texts::{say_hoard, say_refresh};
+use crate::texts::{say_hoard, say_refresh, say_walk};
 use iot_disk::Disk;
 use iot_laptop::Laptop;
 use iot_node::{Halt, say};
 use iot_server_node::{Message, ServerNode};
-use iot_text::{Path, Text};
-use iot_tree::{Duplicate, Want};
+use iot_text::{NoMemory, Path, Text};
+use iot_tree::{Duplicate, Profile, Want};
 use std::alloc::Global;
 
 /// Fetches what lies on the way to the path, at it and below it.
@@ -28,7 +31,7 @@ pub(crate) fn hoard<D: Disk>(
         (two laptop.old server.old) (two laptop.new server.new) out.old out.new result }
 {
     let want = Want::Below(path.copy(alloc)?);
-    take(laptop, server, alloc, &want, out)?;
+    take(laptop, server, alloc, Errand::Refresh(&want), out)?;
     say_hoard(laptop.name(), path, out)?;
     Ok(())
 }
@@ -44,21 +47,42 @@ pub(crate) fn refresh<D: Disk>(
     ensures { (scripts : List Declared) → Does D.medium scripts Refreshes
         (two laptop.old server.old) (two laptop.new server.new) out.old out.new result }
 {
-    take(laptop, server, alloc, &Want::Nothing, out)?;
+    take(laptop, server, alloc, Errand::Refresh(&Want::Nothing), out)?;
     say_refresh(laptop.name(), out)?;
     Ok(())
 }
 
-/// Brings what is wanted, unless a transaction runs or waits.
+/// Takes along what the profile wishes, as much as fits into the limit.
+pub(crate) fn walk<D: Disk>(
+    laptop: &mut Laptop<D>,
+    server: &mut ServerNode<D>,
+    alloc: Global,
+    profile: &Profile,
+    limit: u64,
+    out: &mut Text,
+) -> Result<(), Halt>
+    requires ready { IsReady D.medium (two laptop.old server.old) }
+    requires profile { IsProfile profile.now }
+    requires limit { IsWalkLimit limit }
+    ensures { (scripts : List Declared) → Does D.medium scripts (Walks profile.now limit)
+        (two laptop.old server.old) (two laptop.new server.new) out.old out.new result }
+{
+    take(laptop, server, alloc, Errand::Walk { profile, limit }, out)?;
+    say_walk(alloc, laptop.name(), laptop.held(), out)?;
+    Ok(())
+}
+
+/// Brings what it asks for, unless a transaction runs or waits.
 fn take<D: Disk>(
     laptop: &mut Laptop<D>,
     server: &mut ServerNode<D>,
     alloc: Global,
-    want: &Want,
+    errand: Errand<'_>,
     out: &mut Text,
 ) -> Result<(), Halt>
-    requires { IsReady D.medium (two laptop.old server.old) }
-    ensures { (scripts : List Declared) → Does D.medium scripts (Takes want.now)
+    requires ready { IsReady D.medium (two laptop.old server.old) }
+    requires may { MayAsk (errand_of errand) }
+    ensures { (scripts : List Declared) → Does D.medium scripts (Takes (errand_of errand.entry))
         (two laptop.old server.old) (two laptop.new server.new) out.old out.new result }
 {
     if laptop.runs() {
@@ -69,24 +93,25 @@ fn take<D: Disk>(
         say(b"pending", out)?;
         return Err(Halt::Over);
     }
-    if !bring(laptop, server, alloc, want, out)? {
+    if !bring(laptop, server, alloc, errand, out)? {
         say(b"away", out)?;
         return Err(Halt::Over);
     }
     Ok(())
 }
 
-/// Holds what is wanted of the server's tree, and tells whether it came.
+/// Holds what it asks for of the server's tree, and tells whether it came.
 pub(crate) fn bring<D: Disk>(
     laptop: &mut Laptop<D>,
     server: &mut ServerNode<D>,
     alloc: Global,
-    want: &Want,
+    errand: Errand<'_>,
     out: &mut Text,
 ) -> Result<bool, Halt>
     requires ready { IsReady D.medium (two laptop.old server.old) }
     requires none { (state_in laptop.old).items ≡ [] }
-    ensures does { (scripts : List Declared) → Does D.medium scripts (Holds hold want.now)
+    requires may { MayAsk (errand_of errand) }
+    ensures does { (scripts : List Declared) → Does D.medium scripts (Holds hold (errand_of errand.entry))
         (two laptop.old server.old) (two laptop.new server.new) out.old out.new result }
     ensures none { IfOk result (λ _. (state_in laptop.new).items ≡ []) }
     ensures running { IfOk result (λ _. (state_in laptop.new).running ≡ (state_in laptop.old).running) }
@@ -95,17 +120,56 @@ pub(crate) fn bring<D: Disk>(
         miss(laptop, server);
         return Ok(false);
     }
-    let request = laptop.ask(alloc, want)?;
+    let request = ask(laptop, alloc, errand)?;
     let message = Message {
         request,
         handed: None,
     };
     match exchange(laptop, server, alloc, &message, out)? {
         Some(reply) => {
-            laptop.take(alloc, &reply, out)?;
+            take_reply(laptop, alloc, errand, &reply, out)?;
             Ok(true)
         }
         None => Ok(false),
+    }
+}
+
+/// The request for it.
+fn ask<D: Disk>(laptop: &Laptop<D>, alloc: Global, errand: Errand<'_>) -> Result<Vec<u8>, NoMemory>
+    requires stands { Stands D.medium laptop.now }
+    requires place { laptop.now.place ≤ 7 }
+    requires none { (state_in laptop.now).items ≡ [] }
+    requires may { MayAsk (errand_of errand) }
+    ensures { IfOk result (λ request. IsErrand laptop.now.place (stamps_in laptop.now) (errand_of errand.entry) request.items) }
+{
+    match errand {
+        Errand::Refresh(want) => laptop.ask(alloc, want),
+        Errand::Walk { profile, limit } => laptop.ask_walk(alloc, profile, limit),
+    }
+}
+
+/// Holds what the reply brings for it.
+fn take_reply<D: Disk>(
+    laptop: &mut Laptop<D>,
+    alloc: Global,
+    errand: Errand<'_>,
+    reply: &[u8],
+    out: &mut Text,
+) -> Result<(), Halt>
+    requires stands { Stands D.medium laptop.old }
+    requires none { (state_in laptop.old).items ≡ [] }
+    requires brings { BringsTree (base_of (stamps_in laptop.old) (errand_of errand)) reply.now }
+    ensures does { (t : Nodes) → SpellsTree (base_of (stamps_in laptop.old) (errand_of errand.entry)) reply.now t
+        → Changes D.medium (hold t) laptop.old laptop.new out.old out.new result }
+    ensures none { OnOk result ((state_in laptop.new).items ≡ []) }
+    ensures running { OnOk result ((state_in laptop.new).running ≡ (state_in laptop.old).running) }
+    ensures stamps { TakesStamps (base_of (stamps_in laptop.old) (errand_of errand.entry)) reply.now laptop.old laptop.new result }
+    ensures place { SamePlace laptop.old laptop.new }
+    ensures disk { KeepsDisk D.medium (disk_in laptop.old) (disk_in laptop.new) }
+{
+    match errand {
+        Errand::Refresh(_) => laptop.take(alloc, reply, out),
+        Errand::Walk { .. } => laptop.take_walk(alloc, reply, out),
     }
 }
 
@@ -123,7 +187,7 @@ pub(crate) fn fetch<D: Disk>(
     requires none { (state_in laptop.old).items ≡ [] }
     requires asked { IsAsked laptop.old request }
     ensures { (want : Wanted) → IsRefresh laptop.old.place (stamps_in laptop.old) want request
-        → (scripts : List Declared) → Does D.medium scripts (Holds (fetch number) want)
+        → (scripts : List Declared) → Does D.medium scripts (Holds (fetch number) (Refresh want))
         (two laptop.old server.old) (two laptop.new server.new) out.old out.new result }
 {
     let message = Message {

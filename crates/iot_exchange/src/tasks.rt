@@ -8,12 +8,12 @@ ghost use Rattle.iot_exchange.specs.Pairs.{two, AnyStands, IsStandingWith, IsRea
 use crate::decisions::{discard, repair};
 use crate::declared::DeclaredScript;
 use crate::looking::{say_queue, say_reads};
-use crate::objects::{hoard, refresh};
+use crate::objects::{hoard, refresh, walk};
 use crate::queues::{drain, sync};
 use crate::runs::run;
 use crate::transactions::{begin_aloud, end, step_aloud};
 use iot_disk::Disk;
-use iot_event::{Choice, Task};
+use iot_event::{Choice, SharedProfile, Task};
 use iot_laptop::Laptop;
 use iot_node::{Halt, say};
 use iot_server_node::ServerNode;
@@ -31,7 +31,7 @@ pub fn perform<D: Disk>(
     server: &mut ServerNode<D>,
     alloc: Global,
     scripts: &[DeclaredScript],
-    task: &Task<u64>,
+    task: &Task<u64, SharedProfile>,
     out: &mut Text,
 ) -> Result<(), NoMemory>
     requires stands { IsStandingWith D.medium (scripts_of scripts.now) (two laptop.old server.old) }
@@ -63,7 +63,7 @@ fn carry_out<D: Disk>(
     server: &mut ServerNode<D>,
     alloc: Global,
     scripts: &[DeclaredScript],
-    task: &Task<u64>,
+    task: &Task<u64, SharedProfile>,
     out: &mut Text,
 ) -> Result<(), Halt>
     requires ready { IsReadyWith D.medium (scripts_of scripts.now) (two laptop.old server.old) }
@@ -80,6 +80,9 @@ fn carry_out<D: Disk>(
         }
         Task::Hoard { path } => hoard(laptop, server, alloc, path, out),
         Task::Refresh => refresh(laptop, server, alloc, out),
+        Task::Walk { profile, limit } => {
+            walk(laptop, server, alloc, profile.profile(), *limit, out)
+        }
         Task::Begin { script, option } => {
             let script = &scripts[*script as usize];
             let chosen = by_name(scripts, *option);

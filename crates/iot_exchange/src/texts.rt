@@ -1,15 +1,18 @@
 //! The lines of a client's transactions.
 ghost use Rattle.std.specs.Prelude.{◌≡◌, ◌++◌, ◌∷◌, codes, decimal};
-ghost use Rattle.iot_exchange.specs.Words.{pending_line, OnOk, name_of, verdict_of, hoard_line, refresh_line, begin_line};
+ghost use Rattle.iot_exchange.specs.Words.{pending_line, OnOk, name_of, verdict_of, hoard_line, refresh_line, walk_line, begin_line};
 ghost use Rattle.iot_exchange.specs.Words.{fetch_line, step_line, line, again_line, question_text, resolve_line, repair_line};
 ghost use Rattle.iot_exchange.specs.Saying.{place_said, resolver_said, told_text};
 
+use iot_hoard::size_of;
 use iot_inspect::put_question;
 use iot_laptop::{Told, Verdict};
 use iot_node::{Printed, Transaction};
+use iot_prune::known;
 use iot_resolve::Plan;
 use iot_text::{Name, NoMemory, Path, Text};
-use iot_tree::{ACT_LIMIT, OnConflict, Question};
+use iot_tree::{ACT_LIMIT, OnConflict, Question, Tree};
+use std::alloc::Global;
 
 /// `hoard C P`
 pub(crate) fn say_hoard(name: &Name, path: &Path, out: &mut Text) -> Result<(), NoMemory>
@@ -29,6 +32,25 @@ pub(crate) fn say_refresh(name: &Name, out: &mut Text) -> Result<(), NoMemory>
     out.append(b"refresh ")?;
     out.append(name.as_bytes())?;
     out.push(b'\n')
+}
+
+/// `walk C K paths B bytes`: how many paths of the tree are known, and how much of a limit these take.
+pub(crate) fn say_walk(
+    alloc: Global,
+    name: &Name,
+    held: &Tree,
+    out: &mut Text,
+) -> Result<(), NoMemory>
+    ensures { OnOk result (out.new ≡ out.old ++ walk_line name.now held.now) }
+{
+    let known = known(alloc, held)?;
+    out.append(b"walk ")?;
+    out.append(name.as_bytes())?;
+    out.push(b' ')?;
+    out.append_number(known.len() as u64)?;
+    out.append(b" paths ")?;
+    out.append_number(size_of(held, &known))?;
+    out.append(b" bytes\n")
 }
 
 /// `begin TID S first`, or `second`

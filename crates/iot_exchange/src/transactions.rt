@@ -10,6 +10,7 @@ ghost use Rattle.iot_exchange.specs.Pairs.{two, IsReady, IsReadyWith, IsReadyFor
 ghost use Rattle.iot_exchange.specs.Ending.{EndsAloud, ended_as};
 
 use crate::declared::DeclaredScript;
+use crate::errand::Errand;
 use crate::objects::{bring, fetch};
 use crate::queues::sync;
 use crate::synced::Synced;
@@ -71,7 +72,7 @@ pub(crate) fn begin<D: Disk>(
     if laptop.waits() {
         return start(laptop, alloc, script, option, false, out);
     }
-    let first = bring(laptop, server, alloc, &Want::Nothing, out)?;
+    let first = bring(laptop, server, alloc, Errand::Refresh(&Want::Nothing), out)?;
     start(laptop, alloc, script, option, first, out)
 }
 

@@ -1,18 +1,19 @@
 -- Of events that are declared the next one may come, and those behind it stay declared.
 use Rattle.iot_world.proofs.Common.{◌≡◌, ℕ, ◌+◌, ◌<◌, List, [], ◌∷◌, length, drop, slice_index_or, sym, ap, subst, ◌∙◌, drop_more}
 use Rattle.iot_world.proofs.Common.{DeclaredOn, client_count, script_names}
-use Rattle.iot_world.specs.Prelude.{AreDeclared, ClientEventIsDeclared, ClientEvent, Event, World}
+use Rattle.iot_world.specs.Prelude.{AreDeclared, ClientEventIsDeclared, ClientEvent, Event, Profile, World}
 use Rattle.iot_event.specs.declared.event.ClientEvent.TheVariants as client_events
 use Rattle.iot_event.specs.declared.event.Event.TheVariants as events
 use Rattle.iot_event.specs.declared.event.Task.TheVariants as tasks
 use Rattle.iot_world.specs.Allowed.{IsAllowed, MayBefall}
 
 -- what a client may be asked, if it says what it may say
-may_befall : (what : ClientEvent ℕ) (scripts : ℕ) → ClientEventIsDeclared what scripts → MayBefall what scripts
+may_befall : (what : ClientEvent ℕ Profile) (scripts : ℕ) → ClientEventIsDeclared what scripts → MayBefall what scripts
 may_befall (client_events.Task (tasks.Run script option)) scripts declared = declared
 may_befall (client_events.Task (tasks.Begin script option)) scripts declared = declared
 may_befall (client_events.Task (tasks.Repair script)) scripts declared = declared
 may_befall (client_events.Task (tasks.Reads item)) scripts declared = declared.0
+may_befall (client_events.Task (tasks.Walk profile limit)) scripts declared = declared
 may_befall what scripts declared = tt
 
 -- the first of events that are declared may come

@@ -1,7 +1,8 @@
 -- An event of a world is one of the machine's, and what was declared before it still is.
+use Rattle.std.proofs.Common.{append-nil, refl}
 use Rattle.iot_world.proofs.Common.{◌≡◌, ℕ, List, [], ◌++◌, Result, Ok, Err, OnOk, sym, ap, ◌∙◌, sound_event, bind, asks, MakesStep}
 use Rattle.iot_world.proofs.Common.{EventSteps, IsWorldOfSome, scripts_of}
-use Rattle.iot_world.specs.Prelude.{Medium, ClientEvent, Event, Call, client_part, event_part, Refines, World}
+use Rattle.iot_world.specs.Prelude.{Medium, ClientEvent, Event, Call, Profile, client_part, event_part, Refines, World}
 use Rattle.iot_event.specs.declared.event.Event.TheVariants as events
 
 -- what follows from what is so if it was done
@@ -28,7 +29,7 @@ module _ {D : Type 0} {medium : Medium D} {old new : World D} {x y : List ℕ} w
   }
 
   -- an event of a client is one among the scripts of the machine
-  pub client_steps : (c : ℕ) (what : ClientEvent ℕ) → MakesStep medium (client_part (scripts_of old) c what) old new x y tt
+  pub client_steps : (c : ℕ) (what : ClientEvent ℕ Profile) → MakesStep medium (client_part (scripts_of old) c what) old new x y tt
       → EventSteps medium (events.At c what) old new x y
   client_steps c what one =
       event_steps (events.At c what)
@@ -39,3 +40,10 @@ module _ {D : Type 0} {medium : Medium D} {old new : World D} {x y : List ℕ} w
   steps_some event some one =
       let s = one.step some.machine some.stands in
       record { machine = s.1; stands = s.4 }
+
+-- a profile changes nothing
+pub profile_steps : {D : Type 0} {medium : Medium D} {event : Event} (name : List ℕ) (profile : Profile) (world : World D) (x : List ℕ)
+    → event ≡ events.Profile name profile → EventSteps medium event world world x x
+profile_steps name profile world x is = rw is (event_steps (events.Profile name profile) (record {
+  step = λ m here. ([], m, sym (append-nil x), (refl, refl), here);
+}))

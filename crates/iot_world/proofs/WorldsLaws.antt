@@ -3,6 +3,7 @@ use Rattle.std.proofs.lemmas.Option.{same_Some, slice_get-map, slice_get-get_or,
 use Rattle.iot_world.proofs.Common.{◌≡◌, ℕ, Bool, true, false, List, Some, ap, ◌∙◌, ◌<◌, [], ◌∷◌, length, map}
 use Rattle.iot_world.proofs.Common.{slice_get, slice_index_or, slice_set, refl, sym, subst, arith, ◌++◌, length-set, append-nil}
 use Rattle.iot_world.proofs.Common.{Each, ArePlaced, StandsFor, StandsForSome, MakesStep, scripts_of, all_set, up_is, map-set_same}
+use Rattle.iot_tree.specs.Profiles.{Profile}
 use Rattle.iot_world.specs.Prelude.{NodeEvent, Call, At, Gets, Then, Lens, ClientState, Running, Declared, link_part, node_part, comes_back}
 use Rattle.iot_world.specs.Prelude.{FindsLongest, cuts_off, counts_anew, RestartsServer, IfUp, task_part, client_part, Client, Machine}
 use Rattle.iot_world.specs.Prelude.{Commit, Pair, no_client, client_in, client_at, pair_at, server, Node, OpensClient, Vec, Global, Medium}
@@ -183,7 +184,7 @@ module _ {D : Type 0} (medium : Medium D) where
           let more = grow m ((pair_at c).set s.1 m) s.0 here (record { inner = s.1; step = s.3; is = refl }) in
           (s.0, s.1, s.2, s.3, put_there m s.1.client s.1.server s.1.requests here is s.4.client.place same s.4.server more s.4.follows))
 
-      pub at_task : (ss : List DeclaredScript) (task : Task ℕ) (x y : List ℕ) → ss ≡ old.scripts.items
+      pub at_task : (ss : List DeclaredScript) (task : Task ℕ Profile) (x y : List ℕ) → ss ≡ old.scripts.items
           → ((names : List (List ℕ)) (place : ℕ)
           → StepsTo (AnyStands medium (exchange.scripts_of ss) names place) (AnyStands medium (exchange.scripts_of ss) names place)
           (IfUp (task_part (exchange.scripts_of ss) task)) (two was old.server) (two laptop server_) x y tt)

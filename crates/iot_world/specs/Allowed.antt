@@ -1,12 +1,12 @@
 -- Which event may come, if so many clients, and scripts of these names, are declared.
 use Rattle.std.specs.Prelude.{◌≡◌, ◌<◌}
-use Rattle.iot_world.specs.Prelude.{ℕ, Bool, true, false, List, length, is_declared, ClientEvent, Event, NodeEvent, Stop, MayDo}
+use Rattle.iot_world.specs.Prelude.{ℕ, Bool, true, false, List, length, is_declared, ClientEvent, Event, NodeEvent, Stop, MayDo, Profile}
 use Rattle.iot_event.specs.declared.declared.TheConstants.{CLIENT_LIMIT}
 use Rattle.iot_event.specs.declared.event.ClientEvent.TheVariants.{Node, Task}
 use Rattle.iot_event.specs.declared.event.Event.TheVariants as events
 
 -- what a client is asked to do is with scripts that are declared
-abbrev pub MayBefall : ClientEvent ℕ → (scripts : ℕ) → Type 0
+abbrev pub MayBefall : ClientEvent ℕ Profile → (scripts : ℕ) → Type 0
 MayBefall (Task task) scripts = MayDo task scripts
 MayBefall other scripts = Unit {0}
 
@@ -22,7 +22,7 @@ abbrev pub stops_node : NodeEvent → Bool
 stops_node (Stop calls pick) = true
 stops_node other = false
 
-abbrev pub stops_client : ClientEvent ℕ → Bool
+abbrev pub stops_client : ClientEvent ℕ Profile → Bool
 stops_client (Node what) = stops_node what
 stops_client other = false
 

@@ -6,6 +6,7 @@ pub use Rattle.std.specs.Prelude.{length, map, slice_get, true, ℕ}
 pub use Rattle.std.specs.Vec.{vec_capacity, vec_len}
 pub use Rattle.std.specs.declared.alloc.Global.{Global}
 pub use Rattle.iot_disk.specs.Disk.{Medium}
+pub use Rattle.iot_tree.specs.Profiles.{Profile}
 pub use Rattle.iot_event.specs.Declarations.{AreDeclared, ClientEventIsDeclared}
 pub use Rattle.iot_event.specs.Meanings.{is_declared}
 pub use Rattle.iot_event.specs.declared.event.ClientEvent.{ClientEvent}

@@ -12,7 +12,7 @@ use crate::disks::take_first;
 use crate::nodes::{befall, relink};
 use crate::world::World;
 use iot_disk::Disk;
-use iot_event::{ClientEvent, SharedScript};
+use iot_event::{ClientEvent, SharedProfile, SharedScript};
 use iot_exchange::{DeclaredScript, perform};
 use iot_laptop::Laptop;
 use iot_text::{Name, NoMemory, Text};
@@ -65,7 +65,7 @@ impl<D: Disk> World<D> {
         &mut self,
         alloc: Global,
         client: u64,
-        what: &ClientEvent<u64>,
+        what: &ClientEvent<u64, SharedProfile>,
         out: &mut Text,
     ) -> Result<(), NoMemory>
         requires stands { StandsForSome D.medium self.old }

@@ -111,7 +111,7 @@ pub(crate) fn arms(event: &Event) -> bool
             ClientEvent::Node(what) => is_stop(*what),
             ClientEvent::Link(_) | ClientEvent::Task(_) => false,
         },
-        Event::Client(_) | Event::Script(_, _) | Event::Log => false,
+        Event::Client(_) | Event::Script(_, _) | Event::Profile(_, _) | Event::Log => false,
     }
 }
 

@@ -160,6 +160,7 @@ impl<D: Disk> World<D> {
         match event {
             Event::Client(name) => self.declare_client(alloc, name, out),
             Event::Script(name, script) => self.declare_script(name, script),
+            Event::Profile(_, _) => Ok(()),
             Event::At { client, what } => self.at(alloc, *client, what, out),
             Event::Server(what) => self.befall_server(alloc, *what, out),
             Event::Log => self.log(alloc, out),

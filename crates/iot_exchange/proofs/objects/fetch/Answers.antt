@@ -1,5 +1,5 @@
 use Rattle.std.proofs.Common.{refl}
-use Rattle.iot_exchange.specs.Words.{stamps_in, stamps_of, state_in, fetch}
+use Rattle.iot_exchange.specs.Words.{stamps_in, stamps_of, state_in, fetch, Refresh}
 use Rattle.iot_exchange.specs.Pairs.{Objects}
 use Rattle.iot_exchange.proofs.DoesLaws.{hands_on, then_answers, by_call, notes, keeps_more}
 use Rattle.iot_exchange.proofs.FollowingLaws.{held_is}
@@ -24,7 +24,7 @@ fetched-requires-clause-brings g c = rw c.deref.ensures.value
       same = rw c.in-Some.is at c.in_ok-reply.ensures.same;
       lends = rw c.in-Some.is at c.in_ok-reply.ensures.lends;
     })
-    c.args.laptop.now.place c.requires.asked.want (rw c.into_bytes.ensures c.requires.asked.is))
+    c.args.laptop.now.place (Refresh c.requires.asked.want) (rw c.into_bytes.ensures c.requires.asked.is))
 
 pub returns-in_err-fetched-in-Some : goal.returns-in_err-fetched-in-Some
 returns-in_err-fetched-in-Some g c want refresh scripts =
@@ -32,14 +32,14 @@ returns-in_err-fetched-in-Some g c want refresh scripts =
     came c.requires.ready asked (record {
       same = rw c.in-Some.is at c.in_ok-reply.ensures.same;
       lends = rw c.in-Some.is at c.in_ok-reply.ensures.lends;
-    }) c.args.laptop.now.place want (rw c.into_bytes.ensures refresh) (fetch c.args.number)
+    }) c.args.laptop.now.place (Refresh want) (rw c.into_bytes.ensures refresh) (fetch c.args.number)
     (keeps_more (asked scripts).disks c.fetched.ensures.disk)
     (λ t spells. hands_on c.in_err-fetched-in-Some.was c.from_residual-in_err-fetched-in-Some.ensures.1
     (by_call (notes (fetch c.args.number t)) (asked scripts).disks c.fetched.ensures.place
     (takes c.requires.ready asked (record {
       same = rw c.in-Some.is at c.in_ok-reply.ensures.same;
       lends = rw c.in-Some.is at c.in_ok-reply.ensures.lends;
-    }) c.args.laptop.now.place want (rw c.into_bytes.ensures refresh) scripts c.fetched.new.self c.fetched.result
+    }) c.args.laptop.now.place (Refresh want) (rw c.into_bytes.ensures refresh) scripts c.fetched.new.self c.fetched.result
     (rw c.deref.ensures.value at c.fetched.ensures.stamps))
     ((rw c.deref.ensures.value at c.fetched.ensures.does) t spells scripts) c.fetched.ensures.disk))
 
@@ -49,22 +49,22 @@ returns-in-Some g c want refresh scripts =
     came c.requires.ready asked (record {
       same = rw c.in-Some.is at c.in_ok-reply.ensures.same;
       lends = rw c.in-Some.is at c.in_ok-reply.ensures.lends;
-    }) c.args.laptop.now.place want (rw c.into_bytes.ensures refresh) (fetch c.args.number)
+    }) c.args.laptop.now.place (Refresh want) (rw c.into_bytes.ensures refresh) (fetch c.args.number)
     (keeps_more (asked scripts).disks c.fetched.ensures.disk)
     (λ t spells. then_answers c.in_ok-fetched-in-Some.was refl
     (by_call (notes (fetch c.args.number t)) (asked scripts).disks c.fetched.ensures.place
     (takes c.requires.ready asked (record {
       same = rw c.in-Some.is at c.in_ok-reply.ensures.same;
       lends = rw c.in-Some.is at c.in_ok-reply.ensures.lends;
-    }) c.args.laptop.now.place want (rw c.into_bytes.ensures refresh) scripts c.fetched.new.self c.fetched.result
+    }) c.args.laptop.now.place (Refresh want) (rw c.into_bytes.ensures refresh) scripts c.fetched.new.self c.fetched.result
     (rw c.deref.ensures.value at c.fetched.ensures.stamps))
     ((rw c.deref.ensures.value at c.fetched.ensures.does) t spells scripts) c.fetched.ensures.disk))
 
 pub returns : goal.returns
 returns g c want refresh scripts =
     let asked = rw c.in-None.is at (c.in_ok-reply.ensures.asked scripts) in
-    missed want (fetch c.args.number) (λ names at.
+    missed (Refresh want) (fetch c.args.number) (λ names at.
     (asked.is names at
-    (Objects c.args.laptop.now.place (stamps_in c.args.laptop.now) (stamps_of c.args.server.now) (state_in c.args.laptop.now).held want)
+    (Objects c.args.laptop.now.place (stamps_in c.args.laptop.now) (stamps_of c.args.server.now) (state_in c.args.laptop.now).held (Refresh want))
     (rw c.into_bytes.ensures refresh, refl, held_is c.args.laptop.now.post)).is)
     asked.disks

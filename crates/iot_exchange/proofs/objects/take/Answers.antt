@@ -6,12 +6,12 @@ use Rattle.iot_exchange.proofs.objects.take.Goals as goal
 
 pub returns-then-runs : goal.returns-then-runs
 returns-then-runs g c scripts =
-    asks_then (runs_here (sym c.runs.ensures ∙ c.if-runs.true)) (refuses c.requires.keeps c.in_ok-say.ensures)
+    asks_then (runs_here (sym c.runs.ensures ∙ c.if-runs.true)) (refuses c.requires.ready.keeps c.in_ok-say.ensures)
 
 pub returns-then-waits : goal.returns-then-waits
 returns-then-waits g c scripts =
     asks_then (runs_here (sym c.runs.ensures ∙ c.if-runs.false))
-    (asks_then (pends_here (sym c.waits.ensures ∙ c.if-waits.true)) (refuses c.requires.keeps c.in_ok-say-2.ensures))
+    (asks_then (pends_here (sym c.waits.ensures ∙ c.if-waits.true)) (refuses c.requires.ready.keeps c.in_ok-say-2.ensures))
 
 pub bring-requires-clause-none : goal.bring-requires-clause-none
 bring-requires-clause-none g c = no_items _ (sym c.waits.ensures ∙ c.if-waits.false)

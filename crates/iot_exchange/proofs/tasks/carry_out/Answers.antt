@@ -70,6 +70,9 @@ returns-in-Hoard g c = rw c.in-Hoard.is (c.hoard.ensures _)
 pub returns-in-Refresh : goal.returns-in-Refresh
 returns-in-Refresh g c = rw c.in-Refresh.is (c.refresh.ensures _)
 
+pub returns-in-Walk : goal.returns-in-Walk
+returns-in-Walk g c = rw c.in-Walk.is (rw c.profile.ensures at (c.walk.ensures (scripts_of c.args.scripts.now)))
+
 pub returns-in-Step : goal.returns-in-Step
 returns-in-Step g c = rw c.in-Step.is (c.step_aloud.ensures _)
 

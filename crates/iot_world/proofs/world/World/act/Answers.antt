@@ -2,7 +2,7 @@ use Rattle.iot_world.proofs.Common.{refl}
 use Rattle.iot_event.specs.declared.event.Event.TheVariants as events
 use Rattle.iot_world.proofs.DisksLaws.{arms_same, unless_armed}
 use Rattle.iot_world.proofs.DeclaringLaws.{declares_script}
-use Rattle.iot_world.proofs.EventsLaws.{then_ok, event_steps, client_steps}
+use Rattle.iot_world.proofs.EventsLaws.{then_ok, event_steps, client_steps, profile_steps}
 use Rattle.iot_world.proofs.world.World.act.Goals as goal
 
 pub returns-in-Client-clause-step : goal.returns-in-Client-clause-step
@@ -28,3 +28,9 @@ returns-in-Log-clause-step g c = rw c.in-Log.is (then_ok _ c.log.ensures (event_
 
 pub returns-in-Log-clause-arms : goal.returns-in-Log-clause-arms
 returns-in-Log-clause-arms g c = unless_armed _ _ _ (arms_same _ _ _ _ refl)
+
+pub returns-in-Profile-clause-step : goal.returns-in-Profile-clause-step
+returns-in-Profile-clause-step g c = profile_steps _ _ _ _ c.in-Profile.is
+
+pub returns-in-Profile-clause-arms : goal.returns-in-Profile-clause-arms
+returns-in-Profile-clause-arms g c = unless_armed _ _ _ (arms_same _ _ _ _ refl)
