@@ -8,20 +8,22 @@ from itertools import zip_longest
 from statements import STATEMENTS, block_of, statement_fault
 
 LINE_LIMIT = 4096
-CLIENT_LIMIT, SCRIPT_LIMIT, DEPTH_LIMIT = 8, 256, 16
-LIMITS = {'k': 100_000, 'i': 1_000_000, 'K': 1_000_000, 'T': 1_000_000}
+CLIENT_LIMIT, SCRIPT_LIMIT, PROFILE_LIMIT, DEPTH_LIMIT, WISH_LIMIT = 8, 256, 64, 16, 256
+LIMITS = {'k': 100_000, 'i': 1_000_000, 'K': 1_000_000, 'T': 1_000_000, 'LIMIT': 1_000_000, 'PRIORITY': 1_000}
 OPTIONS = 'reexec, resolver S, abort or manual'
-SPELLED = (('LOSS', 'request'), ('LOSS', 'reply'), ('NODE', 'server'), ('NODE', 'C'))
+SPELLED = (('LOSS', 'request'), ('LOSS', 'reply'), ('NODE', 'server'), ('NODE', 'C'), ('PROFILE', 'N'))
 
 # The forms of each event. Capital letters are slots: N a new name, C a client, S a script, NODE a client or the server.
 FORMS = {
     'client': ['client N'],
     'script': ['script N {'],
+    'profile': ['profile N {'],
     'connect': ['connect C'],
     'disconnect': ['disconnect C'],
     'lose': ['lose C LOSS'],
     'hoard': ['hoard C P'],
     'refresh': ['refresh C'],
+    'walk': ['walk C PROFILE LIMIT'],
     'begin': ['begin C S OPTION', 'begin C S resolver S'],
     'step': ['step C', 'step C k', 'step C k T'],
     'end': ['end C', 'end C T'],
@@ -39,17 +41,26 @@ FORMS = {
     'restart': ['restart NODE'],
 }
 
+# The form of a line in a profile, which may end before its last word, and how the pages spell it.
+WISH = ['PRIORITY', 'P', 'below']
+WISH_SHOWN = '`PRIORITY P` or `PRIORITY P below`'
+
+# What declares the name that belongs in a slot.
+DECLARING = {'C': 'client', 'NODE': 'client', 'S': 'script', 'PROFILE': 'profile'}
+
 
 @dataclass
 class Script:
     """An event script, and what its lines have declared before a line."""
 
     given: bytes
-    clients: dict = field(default_factory=dict)
-    scripts: dict = field(default_factory=dict)
 
-    # The number of the line by which the script is opened that is open, its blocks, and the last one that was closed.
+    # By the word of the event that declares them: the names, and on which line.
+    declared: dict = field(default_factory=lambda: {'client': {}, 'script': {}, 'profile': {}})
+
+    # The script or profile that is open: the number of its first line, its word, its blocks, and the last one that was closed.
     opened: int = 0
+    opener: str = ''
     blocks: list = field(default_factory=list)
     closed: tuple = ()
 
@@ -62,16 +73,18 @@ class Script:
             words = words_of(line)
             if self.opened:
                 self.take_inside(at, words)
-            elif words[:1] in (['client'], ['script']) and len(words) > 1:
-                (self.clients if words[0] == 'client' else self.scripts).setdefault(words[1], at)
-                if words[0] == 'script':
-                    self.opened, self.blocks, self.closed = at, [], ()
+            elif len(words) > 1 and words[0] in self.declared:
+                self.declared[words[0]].setdefault(words[1], at)
+                if words[0] != 'client':
+                    self.opened, self.opener, self.blocks, self.closed = at, words[0], [], ()
 
     def take_inside(self, at, words):
         if words == ['}']:
-            self.closed = (at, *(self.blocks.pop() if self.blocks else ('script', self.opened)))
-            if self.closed[1] == 'script':
+            self.closed = (at, *(self.blocks.pop() if self.blocks else (self.opener, self.opened)))
+            if self.closed[1] == self.opener:
                 self.opened = 0
+        elif self.opener == 'profile':
+            pass  # No line of a profile opens a block.
         elif words[:2] == ['}', 'else'] and self.blocks:
             self.blocks[-1] = ('else', at)
         elif words and block_of(words[0]):
@@ -140,7 +153,7 @@ def slot_fault(slot, word):
     """Why this word does not belong in this slot, or nothing."""
     if slot in LIMITS:
         fits = re.fullmatch('[1-9][0-9]{0,6}', word) and int(word) <= LIMITS[slot]
-        return '' if fits else f'a number is 1 to {LIMITS[slot]}, without a leading zero'
+        return '' if fits else f'a {"priority" if slot == "PRIORITY" else "number"} is 1 to {LIMITS[slot]}, without a leading zero'
     if slot == 'P':
         names = word[1:].split('/')
         return '' if word == '/' or word.startswith('/') and all(map(is_name, names)) else path_fault(word)
@@ -151,7 +164,7 @@ def slot_fault(slot, word):
     if slot == 'PICK':
         fits = word in ('old', 'new', '0') or re.fullmatch('[1-9][0-9]{0,2}', word) and int(word) <= 255
         return '' if fits else f'`{word}` is none of old, new and 0 to 255'
-    if slot in ('N', 'C', 'S', 'NODE'):
+    if slot == 'N' or slot in DECLARING:
         return '' if is_name(word) else f'`{word}` is no name: 1 to 32 letters, digits, `_`, `-` and `.`'
     return '' if word == slot else f'`{slot}` belongs here, not `{word}`'
 
@@ -185,14 +198,39 @@ def count_fault(line, words, form):
     return column_of(line, len(words)), f'{what}; the form is {shown}'
 
 
+def outside_fault(script, line):
+    """What belongs in a script or in a profile, and none is open."""
+    first = words_of(line)[0]
+    place = 'profile' if first.isdecimal() or first == '}' and script.closed[1:2] == ('profile',) else 'script'
+    ends = f'no {place} is open'
+    if script.closed:
+        ends = f'the `{script.closed[1]}` of line {script.closed[2]} ends in line {script.closed[0]}'
+    return column_of(line, 0), f'`{first}` belongs in a {place}, and {ends}'
+
+
+def wish_fault(script, line):
+    """Why the words of this line of a profile have neither of the forms."""
+    words = words_of(line)
+    if words[0] in FORMS:
+        return column_of(line, 0), f'`{words[0]}` is an event, and the `profile` of line {script.opened} is open: a line `}}` closes it'
+    if words[0] == '}':
+        return column_of(line, 1), 'after `}` comes nothing'
+    for place, (word, slot) in enumerate(zip(words, WISH)):
+        if word.startswith('#'):
+            return column_of(line, place), 'a `#` after a wish begins no comment'
+        if slot_fault(slot, word):
+            return column_of(line, place), slot_fault(slot, word)
+    what = 'a word is missing' if len(words) < len(WISH) else 'a word too many'
+    return column_of(line, min(len(words), len(WISH))), f'{what}; the form is {WISH_SHOWN}'
+
+
 def form_fault(script, line):
     """Why the words of this line have none of the forms."""
     words = words_of(line)
     if not words:
         return None
-    if words[0] == '}' or words[0] in STATEMENTS and words[0] not in FORMS:
-        ends = f'the `script` of line {script.closed[2]} ends in line {script.closed[0]}' if script.closed else 'no script is open'
-        return column_of(line, 0), f'`{words[0]}` belongs in a script, and {ends}'
+    if words[0] not in FORMS and (words[0] == '}' or words[0].isdecimal() or words[0] in STATEMENTS):
+        return outside_fault(script, line)
     if words[0] not in FORMS:
         return column_of(line, 0), f'no event `{words[0]}`{near(words[0], FORMS)}'
     form, fits = form_of(words)
@@ -205,20 +243,21 @@ def form_fault(script, line):
 
 
 def closing_lookalike(script, number):
-    """A line of the script that begins like a closing one, and is none."""
+    """A line of the script or profile that begins like a closing one, and is none."""
+    known = (['}'], ['}', 'else', '{']) if script.opener == 'script' else (['}'],)
     for at, line in enumerate(script.lines[number:], number + 1):
-        if line.strip(b' \t').startswith(b'}') and words_of(line) not in (['}'], ['}', 'else', '{']):
+        if line.strip(b' \t').startswith(b'}') and words_of(line) not in known:
             return at
     return 0
 
 
 def open_fault(script, number):
-    """A script that no line closes."""
+    """A script or a profile that no line closes."""
     script = Script(script.given)
     script.read_until(len(script.lines) + 1)
     if script.opened != number:
         return None
-    told = f'the `script` of line {number} is never closed by a line `}}`'
+    told = f'the `{script.opener}` of line {number} is never closed by a line `}}`'
     if script.blocks:
         name, at = script.blocks[-1]
         return 1, f'the `{name}` of line {at} is never closed, and so neither is the `script` of line {number}'
@@ -230,6 +269,8 @@ def open_fault(script, number):
 
 
 def bad_line(script, number, line):
+    if script.opened:
+        return line_fault(line, number) or wish_fault(script, line)
     return line_fault(line, number) or form_fault(script, line) or open_fault(script, number)
 
 
@@ -237,22 +278,23 @@ def name_slots(words):
     """Each word that has to be declared, with its place and with what declares it."""
     form, _ = form_of(words)
     for place, slot in enumerate(form):
-        kind = {'C': 'client', 'NODE': 'client', 'S': 'script'}.get(slot)
+        kind = DECLARING.get(slot)
         if kind and not (slot == 'NODE' and words[place] == 'server'):
             yield place, kind, words[place]
 
 
 def unknown_name(script, number, line):
     for place, kind, name in name_slots(words_of(line)):
-        known, others = (script.clients, script.scripts) if kind == 'client' else (script.scripts, script.clients)
+        known = script.declared[kind]
         if name in known:
             continue
+        others = [other for other, names in script.declared.items() if name in names]
         if name == 'server':
             reason = '`server` is no client: only `show`, `stop`, `crash` and `restart` take it'
         elif script.later(kind, name, number):
             reason = f'no {kind} `{name}` yet: line {script.later(kind, name, number)} declares it'
-        elif name in others:
-            reason = f'no {kind} `{name}`: that is a {"script" if kind == "client" else "client"}'
+        elif others:
+            reason = f'no {kind} `{name}`: that is a {others[0]}'
         else:
             reason = f'no {kind} `{name}`{near(name, known, ";")} declared: {", ".join(known) or "none"}'
         return column_of(line, place), reason
@@ -263,14 +305,18 @@ def named_twice(script, number, line):
     kind, name = words_of(line)[:2]
     if name == 'server' and kind == 'client':
         return column_of(line, 1), '`server` is the server: no client has this name'
-    known = script.clients if kind == 'client' else script.scripts
-    return column_of(line, 1), f'the {kind} `{name}` is declared by line {known[name]} already'
+    return column_of(line, 1), f'the {kind} `{name}` is declared by line {script.declared[kind][name]} already'
 
 
 def too_many(script, number, line):
-    if words_of(line)[0] == 'client':
-        return column_of(line, 0), f'a ninth client: at most {CLIENT_LIMIT} are declared'
-    return column_of(line, 0), f'a script too many: at most {SCRIPT_LIMIT} are declared'
+    first = words_of(line)[0]
+    if script.opened:
+        told = f'a wish too many: at most {WISH_LIMIT} are in a profile'
+    elif first == 'client':
+        told = f'a ninth client: at most {CLIENT_LIMIT} are declared'
+    else:
+        told = f'a {first} too many: at most {SCRIPT_LIMIT if first == "script" else PROFILE_LIMIT} are declared'
+    return column_of(line, 0), told
 
 
 def event_inside(script, line):

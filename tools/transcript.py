@@ -122,11 +122,12 @@ def read_events(text):
         words = line.split()
         if block is not None:
             block.append(line)
-            depth += words[:1] == ['if'] or words[:1] == ['for']
+            # In a profile no line opens a block.
+            depth += words[:1] in (['if'], ['for']) and block[0].split()[0] == 'script'
             if words == ['}']:
                 depth -= 1
                 block = block if depth else None
-        elif words[:1] == ['script']:
+        elif words[:1] in (['script'], ['profile']):
             block, depth = [line], 1
             events.append(Event(block, number))
         elif line.strip().startswith('#'):
@@ -223,7 +224,7 @@ class Day:
         words = first.split()
         if first.startswith('#'):
             self.rows.append(Row(event.number, caption=' '.join([first[1:], *event.lines[1:]])))
-        elif words[0] == 'script':
+        elif words[0] in ('script', 'profile'):
             self.rows.append(Row(event.number, event.lines))
         else:
             node = words[1] if len(words) > 1 and words[0] != 'client' else ''
@@ -287,6 +288,9 @@ class Day:
 
     def on_refresh(self, client, words):
         self.ask(client, words[0], ' '.join(words))
+
+    def on_walk(self, client, words):
+        self.ask(client, words[0], f'walk {client.name} ')
 
     def on_begin(self, client, words):
         first = not client.queue and self.exchange(client, 'refresh') == 'both'
