@@ -1,0 +1,3 @@
+pub mod FramesLaws
+pub mod ServingLaws
+pub mod EndingsLaws

@@ -1,0 +1,4 @@
+pub mod Frames
+pub mod Status
+pub mod Serving
+pub mod Endings
