@@ -1,0 +1,2 @@
+pub mod ContinuingLaws
+pub mod EndingLaws

@@ -1,0 +1,5 @@
+pub mod Status
+pub mod Past
+pub mod Input
+pub mod Continuing
+pub mod Ending
