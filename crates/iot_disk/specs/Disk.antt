@@ -20,13 +20,17 @@ never_armed = record { count = 0; last = None }
 abbrev pub armed_with : Arms → ℕ → Pick → Arms
 armed_with arms calls pick = record { count = (arms.count + 1) % 2 ^ 64; last = Some (record { calls = calls; pick = pick }) }
 
--- what is so of each disk of a kind: what a read gives, which images a crash may leave, how often a device call has failed, and how the
--- disk was armed
-pub record Medium (D : Type 0) : Type 1 where
-  pub reads : D → List ℕ
-  pub may_leave : D → List ℕ → Type 0
+-- What is so of each thing of a kind that keeps something durable, of which a crash leaves an image: what a read gives, which images a crash
+-- may leave, how often a device call has failed, and how it was armed.
+pub record Storing (D I : Type 0) : Type 1 where
+  pub reads : D → I
+  pub may_leave : D → I → Type 0
   pub faults : D → ℕ
   pub arms : D → Arms
+
+-- of each disk of a kind, the images of which are bytes
+abbrev pub Medium : (D : Type 0) → Type 1
+Medium D = Storing D (List ℕ)
 
 -- the count of faults, before and after a device call with this answer: it rises with `Failed` and with no other
 abbrev pub CountsFault : {T : Type 0} → Result T DiskFault → ℕ → ℕ → Type 0
