@@ -7,39 +7,42 @@ use Rattle.std.proofs.lemmas.Bool.Decides.{nat_tests}
 use Rattle.iot_disk.specs.Disk.{Torn}
 use Rattle.iot_records.proofs.BytesLaws.{byte_torn, number_torn}
 use Rattle.iot_records.specs.Records.{records}
-use Rattle.iot_slots.specs.Cells.{place_named, next, counting, in_force, has_cells, is_old}
-use Rattle.iot_slots.specs.Decoding.{Encodes, State, decoded}
+use Rattle.iot_slots.specs.Cells.{place_named, next, is_old}
+use Rattle.iot_slots.specs.Decoding.{Encodes, State, decoded, opened}
 use Rattle.iot_slots.specs.Layouts.{IsOther, IsLaidOut, place_by, place_in, next_place, renewed_layout, reaches, is_due, MakesRoom}
+use Rattle.iot_slots.specs.Looked.{found_state}
+use Rattle.iot_slots.specs.Start.{IsFound}
 use Rattle.iot_slots.specs.declared.cell.Force.{Force}
-use Rattle.iot_slots.specs.declared.cell.Force.TheVariants.{NoCell, Is}
+use Rattle.iot_slots.specs.declared.copying.Opened.{Opened}
 use Rattle.iot_slots.specs.declared.layout.Layout.{Layout}
 use Rattle.iot_slots.specs.declared.layout.TheConstants.{MANY}
 use Rattle.iot_slots.specs.declared.version.Version.{Version}
 use Rattle.iot_slots.specs.declared.version.Version.TheVariants.{One, Two}
-use Rattle.iot_slots.proofs.CellsLaws.{place_back, counting_is}
-use Rattle.iot_slots.proofs.PartsLaws.{encodes, shut_torn}
+use Rattle.iot_slots.proofs.CellsLaws.{place_back}
+use Rattle.iot_slots.proofs.PartsLaws.{encodes, in_force_is, shut_torn}
 
 -- what is laid out is decoded as its state
 pub laid_encodes : (header bytes : List ℕ) (state : State) (layout : Layout) → IsLaidOut header bytes state layout →
     decoded header bytes ≡ Encodes state
 laid_encodes header bytes state layout laid = encodes header bytes layout state laid.in_force
 
--- it is the layout's cell that is in force
+-- it is at the layout's place
 pub laid_place : (header bytes : List ℕ) (state : State) (layout : Layout) → IsLaidOut header bytes state layout →
     layout.place ≡ place_in bytes
 laid_place header bytes state layout laid =
     let cell = laid.in_force.cell in
-    let wide = cell.room in
-    let opening = cell.opening in
-    let room : has_cells bytes ≡ true = grind (arith, nat_tests) in
-    let force : in_force bytes ≡ Is layout.cell =
-    ap (λ (b : Bool). cond b (counting bytes) NoCell) room
-    ∙ counting_is bytes layout.cell layout.generation cell.gate cell.generation laid.in_force.outranks in
     let checkpoint = laid.in_force.checkpoint in
     sym (
-    ap (λ (f : Force). place_by f bytes) force
+    ap (λ (f : Force). place_by f bytes) (in_force_is header bytes layout state laid.in_force)
     ∙ ap place_named cell.place
     ∙ place_back layout.version layout.place (omega (arith, checkpoint.end, checkpoint.limit)))
+
+-- what was found in the bytes of a disk is what they encode
+pub found_encodes : (header bytes body : List ℕ) (found : Option Opened) → IsFound header bytes found →
+    opened body (decoded header bytes) ≡ Encodes (found_state body found)
+found_encodes header bytes body None not = ap (opened body) not
+found_encodes header bytes body (Some found) laid =
+    ap (opened body) (laid_encodes header bytes (found_state body (Some found)) found.layout laid)
 
 -- a write after the cells leaves what the other cell says
 pub other_torn : (at end : ℕ) (old new : List ℕ) (other generation : ℕ) (named : Option ℕ) → Torn at end old new →

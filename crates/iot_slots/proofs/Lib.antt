@@ -1,5 +1,6 @@
 mod CellsLaws
 mod DecodingLaws
+pub mod DueLaws
 pub mod LayoutsLaws
 mod PartsLaws
 mod SlotsLaws

@@ -11,7 +11,7 @@ use Rattle.iot_records.specs.Bytes.{Has, number, number_at, is_open}
 use Rattle.iot_records.specs.Records.{Whole, records, spelled, series_in}
 use Rattle.iot_records.proofs.BytesLaws.{length-number, has_split, has_right, has_number_first, has_torn, byte_torn, number_torn}
 use Rattle.iot_records.proofs.RecordsLaws.{length-spelled, series_whole}
-use Rattle.iot_slots.specs.Cells.{cell_at, naming, place_named, version_named, other_of, next, counting, in_force, has_cells}
+use Rattle.iot_slots.specs.Cells.{cell_at, naming, place_named, other_of, next, counting, in_force, has_cells}
 use Rattle.iot_slots.specs.Decoding.{Encodes, Damaged, Decoded, State, state_in, with_records, is_checkpoint, checkpoint_at, named_by}
 use Rattle.iot_slots.specs.Decoding.{decoded, is_foreign}
 use Rattle.iot_slots.specs.Parts.{HasCell, HasCheckpoint, Outranks, IsInForce}
@@ -84,6 +84,17 @@ header_starts header bytes has =
     (starts_is Decides-eqb (drop 1 bytes) header (starts_with nat_eq (drop 1 bytes) header) refl).1 (drop (1 + length header) bytes)
     (has_split bytes 1 header has)
 
+-- it is the layout's cell that is in force
+pub in_force_is : (header bytes : List ℕ) (layout : Layout) (state : State) → IsInForce header bytes layout state →
+    in_force bytes ≡ Is layout.cell
+in_force_is header bytes layout state is =
+    let cell = is.cell in
+    let wide = cell.room in
+    let opening = cell.opening in
+    let room : has_cells bytes ≡ true = grind (arith, nat_tests) in
+    ap (λ (b : Bool). cond b (counting bytes) NoCell) room
+    ∙ counting_is bytes layout.cell layout.generation cell.gate cell.generation is.outranks
+
 -- the law: the disk encodes the state of the parts that count, whatever else is on it
 pub encodes : (header bytes : List ℕ) (layout : Layout) (state : State) → IsInForce header bytes layout state →
     decoded header bytes ≡ Encodes state
@@ -94,11 +105,7 @@ encodes header bytes layout state is =
     let native : is_foreign header bytes ≡ false =
     ap (λ (b : Bool). nat_le 9 (length bytes) && (is_open bytes 0 && not b)) (header_starts header bytes cell.front)
     ∙ grind (arith, nat_tests) in
-    let room : has_cells bytes ≡ true = grind (arith, nat_tests) in
-    let force : in_force bytes ≡ Is layout.cell =
-    ap (λ (b : Bool). cond b (counting bytes) NoCell) room
-    ∙ counting_is bytes layout.cell layout.generation cell.gate cell.generation is.outranks in
-    decoded_force header bytes (Is layout.cell) native force
+    decoded_force header bytes (Is layout.cell) native (in_force_is header bytes layout state is)
     ∙ ap (λ (n : ℕ). named_by layout.cell n bytes) cell.place
     ∙ named_encodes bytes layout state is.checkpoint is.version is.shut
 

@@ -1,16 +1,18 @@
 //! The slots themselves.
-ghost use Rattle.std.specs.Prelude.{◌≡◌, ◌≢◌, ◌<◌, ◌+◌, ◌^◌, [], false, length, IfOk, IfErr, OnOk, IsErrOf, MatchResult};
+ghost use Rattle.std.specs.Prelude.{◌≡◌, ◌≢◌, ◌<◌, ℕ, ◌+◌, ◌^◌, List, [], false, length, IfOk, IfErr, OnOk, IsErrOf, MatchResult};
 ghost use Rattle.iot_disk.specs.Disk.{armed_with, Only, SameImages};
 ghost use Rattle.iot_disk.specs.Faults.{CountsJournalFault};
 ghost use Rattle.iot_records.specs.Records.{ChangesNothing, records};
 ghost use Rattle.iot_slots.specs.Cells.{next, number_of};
 ghost use Rattle.iot_slots.specs.Decoding.{Encodes, NotStarted, decoded, opened, state_in};
+ghost use Rattle.iot_slots.specs.Due.{EachTakes};
+ghost use Rattle.iot_slots.specs.Looked.{disk_of as disk_in, header_of as header_in, state_with, IsLooked};
 ghost use Rattle.iot_slots.specs.Start.{HasCause, EachEncodesAs, started_over};
 
 use crate::layout::MANY;
 use crate::spelling::{closing, spell_cell, spell_checkpoint};
-use crate::start::open;
-use crate::{Body, Layout, Started};
+use crate::start::see;
+use crate::{Layout, Looked, Started};
 use iot_disk::{Disk, JournalFault, Pick, StartFault, keep};
 use iot_records::{OPEN, spell_record};
 use std::alloc::Global;
@@ -85,7 +87,7 @@ impl<D: Disk> Slots<D> {
     /// The same, but a disk that is not started is started with this body.
     pub fn start_with(
         alloc: Global,
-        mut disk: D,
+        disk: D,
         header: [u8; 8],
         body: &[u8],
     ) -> Result<(Slots<D>, Started), (D, StartFault)>
@@ -129,21 +131,43 @@ impl<D: Disk> Slots<D> {
             (λ made. D.medium.arms (disk_of made.0) ≡ D.medium.arms disk)
             (λ refused. D.medium.arms refused.0 ≡ D.medium.arms disk) }
     {
-        match open(alloc, &mut disk, &header, body) {
-            Ok(found) => {
-                let slots = Slots {
-                    disk,
-                    header,
-                    layout: found.layout,
-                    buffer: Vec::new(alloc),
-                };
-                let started = Started {
-                    version: found.layout.version.number(),
-                    body: Body::from(found.body),
-                    records: found.bodies,
-                };
-                Ok((slots, started))
-            }
+        match Self::look(alloc, disk, header) {
+            Ok(looked) => looked.start(alloc, body),
+            Err(refused) => Err(refused),
+        }
+    }
+
+    /// Reads the disk, which no one else writes, and starts nothing on it yet. If this refuses the disk, it gives it back.
+    ///
+    /// # Errors
+    ///
+    /// `Foreign` if something else wrote the disk, `Damaged` with the place of what is cut short.
+    pub fn look(alloc: Global, mut disk: D, header: [u8; 8]) -> Result<Looked<D>, (D, StartFault)>
+        requires { Only (D.medium.reads disk) (D.medium.may_leave disk) }
+        ensures looked { IfOk result (λ looked. IsLooked D.medium looked) }
+        ensures header { IfOk result (λ looked. header_in looked ≡ header) }
+
+        // The bytes encode the state that was found, or nothing was started there.
+        ensures state { (body : List ℕ) → IfOk result (λ looked.
+            opened body (decoded header (D.medium.reads disk)) ≡ Encodes (state_with body looked)) }
+
+        // However this returns, the disk is only read.
+        ensures reads { MatchResult result
+            (λ looked. D.medium.reads (disk_in looked) ≡ D.medium.reads disk)
+            (λ refused. D.medium.reads refused.0 ≡ D.medium.reads disk) }
+        ensures images { MatchResult result
+            (λ looked. SameImages (D.medium.may_leave disk) (D.medium.may_leave (disk_in looked)))
+            (λ refused. SameImages (D.medium.may_leave disk) (D.medium.may_leave refused.0)) }
+
+        ensures steady { IfOk result (λ looked. D.medium.faults (disk_in looked) ≡ D.medium.faults disk) }
+        ensures cause { IfErr result (λ refused.
+            HasCause refused.1 (decoded header (D.medium.reads disk)) (D.medium.faults disk) (D.medium.faults refused.0)) }
+        ensures arms { MatchResult result
+            (λ looked. D.medium.arms (disk_in looked) ≡ D.medium.arms disk)
+            (λ refused. D.medium.arms refused.0 ≡ D.medium.arms disk) }
+    {
+        match see(alloc, &mut disk, &header) {
+            Ok(seen) => Ok(Looked { disk, header, seen }),
             Err(fault) => Err((disk, fault)),
         }
     }
@@ -163,6 +187,10 @@ impl<D: Disk> Slots<D> {
             → EachEncodes (header_of self.old) (D.medium.may_leave (disk_of self.new)) (state_on D.medium self.old) }
         ensures appended { OnOk result (EachEncodes (header_of self.old) (D.medium.may_leave (disk_of self.new))
             (appended (state_on D.medium self.old) body.now)) }
+
+        // Before this record no checkpoint is due on an image that encodes the state before.
+        ensures takes { EachTakes (header_of self.old) (D.medium.may_leave (disk_of self.new))
+            (state_on D.medium self.old) (length body.now) }
 
         ensures state { OnOk result
             (state_on D.medium self.new ≡ appended (state_on D.medium self.old) body.now) }

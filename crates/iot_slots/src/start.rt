@@ -3,10 +3,9 @@ ghost use Rattle.std.specs.Prelude.{◌≡◌, ◌≢◌, ◌≤◌, ◌^◌, []
 ghost use Rattle.iot_disk.specs.Disk.{CountsFault, Only, SameImages};
 ghost use Rattle.iot_records.specs.Bytes.{is_closed};
 ghost use Rattle.iot_records.specs.Images.{Each};
-ghost use Rattle.iot_records.specs.Records.{ChangesNothing};
 ghost use Rattle.iot_slots.specs.Decoding.{Encodes, NotStarted, decoded, opened, state_in};
 ghost use Rattle.iot_slots.specs.Layouts.{IsLaidOut, fresh_layout};
-ghost use Rattle.iot_slots.specs.Start.{HasCause, EachEncodesAs, started_over};
+ghost use Rattle.iot_slots.specs.Start.{HasCause, EachEncodesAs, IsSeen, IsOpening, KeepsRoom, started_over};
 ghost use Rattle.iot_slots.specs.declared.version.Version.TheVariants.{Two};
 
 use crate::Layout;
@@ -16,30 +15,49 @@ use iot_disk::{Bodies, Disk, DiskFault, StartFault, keep};
 use iot_records::{CLOSED, OPEN, has_closed_gate, read_disk};
 use std::alloc::Global;
 
-/// Reads the disk, and starts it with this body if it is not started.
+/// What was read on a disk.
+#[derive(Drop)]
+pub struct Seen {
+    pub bytes: Vec<u8>,
+    /// Nothing if the disk is not started.
+    pub found: Option<Opened>,
+}
+
+/// Reads the disk.
+pub fn see<D: Disk>(alloc: Global, disk: &mut D, header: &[u8; 8]) -> Result<Seen, StartFault>
+    requires { Only (D.medium.reads disk.old) (D.medium.may_leave disk.old) }
+    ensures seen { IfOk result (λ seen. IsSeen header.now (D.medium.reads disk.old) seen) }
+    ensures reads { D.medium.reads disk.new ≡ D.medium.reads disk.old }
+    ensures images { SameImages (D.medium.may_leave disk.old) (D.medium.may_leave disk.new) }
+    ensures steady { OnOk result (D.medium.faults disk.new ≡ D.medium.faults disk.old) }
+    ensures cause { IfErr result (λ fault.
+        HasCause fault (decoded header.now (D.medium.reads disk.old)) (D.medium.faults disk.old) (D.medium.faults disk.new)) }
+    ensures arms { D.medium.arms disk.new ≡ D.medium.arms disk.old }
+{
+    let bytes = read_disk(alloc, disk)?;
+    let found = decode(alloc, header, &bytes)?;
+    Ok(Seen { bytes, found })
+}
+
+/// Starts the disk with this body if it is not started.
 pub fn open<D: Disk>(
     alloc: Global,
     disk: &mut D,
     header: &[u8; 8],
+    seen: Seen,
     body: &[u8],
-) -> Result<Opened, StartFault>
-    requires { Only (D.medium.reads disk.old) (D.medium.may_leave disk.old) }
+) -> Result<Opened, DiskFault>
+    requires only { Only (D.medium.reads disk.old) (D.medium.may_leave disk.old) }
+    requires seen { IsSeen header.now (D.medium.reads disk.old) seen }
     ensures state { IfOk result (λ found. opened body.now (decoded header.now (D.medium.reads disk.old))
         ≡ Encodes (state_in found.layout.version found.body.items found.bodies found.layout.count)) }
     ensures laid_out { IfOk result (λ found. IsLaidOut header.now (D.medium.reads disk.new)
         (state_in found.layout.version found.body.items found.bodies found.layout.count) found.layout) }
     ensures durable { OnOk result (Only (D.medium.reads disk.new) (D.medium.may_leave disk.new)) }
 
-    // However this returns, every image encodes what the disk encoded before.
+    // However this returns, every image encodes what the disk encoded before, and nothing became due.
     ensures images { EachEncodesAs header.now body.now (D.medium.reads disk.old) (D.medium.may_leave disk.new) }
-
-    ensures steady { OnOk result (D.medium.faults disk.new ≡ D.medium.faults disk.old) }
-    ensures cause { IfErr result (λ fault.
-        HasCause fault (decoded header.now (D.medium.reads disk.old)) (D.medium.faults disk.old) (D.medium.faults disk.new)) }
-    ensures refused_reads { IfErr result (λ fault.
-        ChangesNothing fault (D.medium.reads disk.new ≡ D.medium.reads disk.old)) }
-    ensures refused_images { IfErr result (λ fault.
-        ChangesNothing fault (SameImages (D.medium.may_leave disk.old) (D.medium.may_leave disk.new))) }
+    ensures room { KeepsRoom header.now (D.medium.reads disk.old) (D.medium.may_leave disk.new) }
 
     // A disk that is started is only read, also if this fails.
     ensures only_read { decoded header.now (D.medium.reads disk.old) ≢ NotStarted → D.medium.reads disk.new ≡ D.medium.reads disk.old }
@@ -49,10 +67,11 @@ pub fn open<D: Disk>(
     // After Ok a disk that was not started has these bytes.
     ensures fresh { decoded header.now (D.medium.reads disk.old) ≡ NotStarted
         → OnOk result (D.medium.reads disk.new ≡ started_over header.now body.now (D.medium.reads disk.old)) }
+    ensures faults { CountsFault result (D.medium.faults disk.old) (D.medium.faults disk.new) }
     ensures arms { D.medium.arms disk.new ≡ D.medium.arms disk.old }
 {
-    let bytes = read_disk(alloc, disk)?;
-    if let Some(found) = decode(alloc, header, &bytes)? {
+    let Seen { bytes, found } = seen;
+    if let Some(found) = found {
         return Ok(found);
     }
     let copy = body.to_vec(alloc)?;
@@ -80,8 +99,7 @@ fn begin<D: Disk>(
     ensures laid_out { OnOk result (IsLaidOut header.now (D.medium.reads disk.new)
         (state_in Two body.now [] 0) (fresh_layout (length body.now))) }
     ensures durable { OnOk result (Only (D.medium.reads disk.new) (D.medium.may_leave disk.new)) }
-    ensures images { Each (λ image. opened body.now (decoded header.now image) ≡ Encodes (state_in Two body.now [] 0))
-        (D.medium.may_leave disk.new) }
+    ensures images { Each (λ image. IsOpening header.now body.now image) (D.medium.may_leave disk.new) }
     ensures faults { CountsFault result (D.medium.faults disk.old) (D.medium.faults disk.new) }
     ensures arms { D.medium.arms disk.new ≡ D.medium.arms disk.old }
 {

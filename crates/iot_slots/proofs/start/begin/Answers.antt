@@ -12,12 +12,13 @@ use Rattle.iot_records.specs.Images.{Each}
 use Rattle.iot_records.proofs.BytesLaws.{closed_more, closed_shut, has_left, has_right, has_byte}
 use Rattle.iot_records.proofs.BytesLaws.{has_torn, has_written, byte_torn, torn_written}
 use Rattle.iot_records.proofs.ImagesLaws.{each_only, each_so, each_torn}
-use Rattle.iot_slots.specs.Decoding.{Encodes, NotStarted, decoded, opened, state_in}
+use Rattle.iot_slots.specs.Decoding.{NotStarted, decoded, opened, state_in}
 use Rattle.iot_slots.specs.Layouts.{IsLaidOut, fresh_layout}
 use Rattle.iot_slots.specs.Parts.{IsInForce}
-use Rattle.iot_slots.specs.Start.{fresh, after_gate, started_over}
+use Rattle.iot_slots.specs.Start.{IsOpening, fresh, after_gate, started_over}
 use Rattle.iot_slots.specs.declared.version.Version.TheVariants.{Two}
 use Rattle.iot_slots.proofs.DecodingLaws.{shut_first}
+use Rattle.iot_slots.proofs.DueLaws.{due_in_force, due_laid, due_never}
 use Rattle.iot_slots.proofs.LayoutsLaws.{laid_encodes}
 use Rattle.iot_slots.proofs.PartsLaws.{encodes}
 use Rattle.iot_slots.proofs.StartLaws.{fresh_in_force}
@@ -26,10 +27,17 @@ use Rattle.iot_slots.proofs.start.begin.Goals as goal
 -- ---- as long as the first gate is closed
 
 abbrev Opening : (header body image : List ℕ) → Type 0
-Opening header body image = opened body (decoded header image) ≡ Encodes (state_in Two body [] 0)
+Opening header body image = IsOpening header body image
 
 not_started : (header body image : List ℕ) → decoded header image ≡ NotStarted → Opening header body image
-not_started header body image is = ap (opened body) is
+not_started header body image is = record { encodes = ap (opened body) is; takes = λ size. due_never header image size is }
+
+laid_opening : (header body image : List ℕ) → IsLaidOut header image (state_in Two body [] 0) (fresh_layout (length body)) →
+    Opening header body image
+laid_opening header body image laid = record {
+  encodes = ap (opened body) (laid_encodes header image (state_in Two body [] 0) (fresh_layout (length body)) laid);
+  takes = λ size. due_laid header image (fresh_layout (length body)) (state_in Two body [] 0) size laid;
+}
 
 each_closed : (header body old : List ℕ) (at end : ℕ) (before now : List ℕ → Type 0) → is_closed old ≡ true → 1 ≤ at → Only old before →
     IsTornFrom at end before now → Each (Opening header body) now
@@ -116,8 +124,14 @@ module _ (header body first second third buffer : List ℕ) (eight : length head
 
   opening_image : (image : List ℕ) → Torn 0 1 third image → Opening header body image
   opening_image image torn = elim (cases_eq (get_or image 0 0) 165) [
-    | inl is ↦ ap (opened body) (encodes header image (fresh_layout (length body)) (state_in Two body [] 0)
-        (opened_in_force image torn is).0)
+    | inl is ↦
+        let there = opened_in_force image torn is in
+        record {
+          encodes = ap (opened body) (encodes header image (fresh_layout (length body)) (state_in Two body [] 0) there.0);
+          takes = λ size.
+              due_in_force header image (fresh_layout (length body)) (state_in Two body [] 0) size there.0
+              (λ h. absurd (omega (arith, there.1, h)));
+        }
     | inr shut ↦ not_started header body image (shut_first header image shut)
   ]
 
@@ -125,8 +139,7 @@ module _ (header body first second third buffer : List ℕ) (eight : length head
       OnErr result (IsTornFrom 0 1 before images) → OnOk result (now ≡ overwritten third 0 (165 ∷ [])) → OnOk result (Only now images) →
       Each (Opening header body) images
   each_final now before images (Ok u) only torn written durable =
-      each_only (Opening header body) now images durable
-      (ap (opened body) (laid_encodes header now (state_in Two body [] 0) (fresh_layout (length body)) (fresh_laid now written)))
+      each_only (Opening header body) now images durable (laid_opening header body now (fresh_laid now written))
   each_final now before images (Err e) only torn written durable =
       each_torn (λ image. image ≡ third) (Opening header body) 0 1 before images
       (λ i j is t. opening_image j (subst (λ (b : List ℕ). Torn 0 1 b j) is t)) torn (record { each = only.is })
@@ -216,3 +229,8 @@ returns-clause-images g c =
     (c.deref.ensures.value ∙ c.in_ok-spell_fresh.ensures)
     second.written second.limit third.written _ _ _ c.keep-3.result third.durable c.keep-3.ensures.images c.keep-3.ensures.written
     c.keep-3.ensures.durable
+
+pub returns-in_err-spell_fresh-clause-images : goal.returns-in_err-spell_fresh-clause-images
+returns-in_err-spell_fresh-clause-images g c =
+    each_only (Opening c.args.header.now c.args.body.now) _ _ c.requires.only
+    (not_started c.args.header.now c.args.body.now _ c.requires.not_started)

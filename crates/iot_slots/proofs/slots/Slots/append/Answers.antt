@@ -1,5 +1,5 @@
 use Rattle.std.proofs.Common.{◌≡◌, ◌≤◌, ◌<◌, ◌⊎◌, inl, inr, ℕ, ◌+◌, ◌^◌, List, [], ◌∷◌, ◌++◌, length, get_or, refl, sym, ◌∙◌, ap, subst}
-use Rattle.std.proofs.Common.{arith, length-append}
+use Rattle.std.proofs.Common.{false, arith, length-append}
 use Rattle.std.proofs.lemmas.Bool.{cases_eq}
 use Rattle.std.proofs.lemmas.List.{append-nil, length_push}
 use Rattle.iot_disk.specs.Disk.{overwritten, Torn, IsTornFrom, Only}
@@ -10,11 +10,13 @@ use Rattle.iot_records.proofs.ImagesLaws.{each_only, each_torn}
 use Rattle.iot_records.proofs.RecordsLaws.{length-spelled, length-records-push, records-push}
 use Rattle.iot_slots.specs.Cells.{cell_at, other_of, next}
 use Rattle.iot_slots.specs.Decoding.{Encodes, State, decoded, state_of}
-use Rattle.iot_slots.specs.Layouts.{IsLaidOut}
+use Rattle.iot_slots.specs.Due.{EachTakes}
+use Rattle.iot_slots.specs.Layouts.{IsLaidOut, IsOther, is_due}
 use Rattle.iot_slots.specs.Parts.{HasCell, HasCheckpoint, IsInForce}
 use Rattle.iot_slots.specs.Slots.{appended, EachEncodes, EachEncodesEither}
 use Rattle.iot_slots.specs.declared.layout.Layout.{Layout}
 use Rattle.iot_slots.proofs.CellsLaws.{cell_range}
+use Rattle.iot_slots.proofs.DueLaws.{due_in_force, never_appended, takes_none, takes_only}
 use Rattle.iot_slots.proofs.LayoutsLaws.{laid_encodes, other_torn}
 use Rattle.iot_slots.proofs.PartsLaws.{encodes, cell_torn, checkpoint_torn, outranks_torn, in_force_aside}
 use Rattle.iot_slots.proofs.SlotsLaws.{synced, each_laid, either_before, either_after}
@@ -81,6 +83,30 @@ module _ (header bytes : List ℕ) (state : State) (layout : Layout) (body buffe
       (λ old new is t. encodes header new layout state (behind_torn old new is t)) torn
       (each_only InForce bytes before only laid.in_force)
 
+  abbrev Other : List ℕ → Type 0
+  Other image = IsOther image (cell_at (other_of layout.cell)) layout.generation layout.other
+
+  -- what the other cell says
+  other_kept : (at end : ℕ) (old new : List ℕ) → Torn at end old new → 43 ≤ at → 43 ≤ length old → Other old → Other new
+  other_kept at end old new torn from room other =
+      let range = cell_range (other_of layout.cell) in
+      other_torn at end old new (cell_at (other_of layout.cell)) layout.generation layout.other torn (omega (arith, from, range.1))
+      (omega (arith, room, range.1)) other
+
+  takes_behind : (before now : List ℕ → Type 0) → Only bytes before →
+      IsTornFrom (layout.gate + 1) (layout.gate + 1 + length buffer) before now → is_due state.bodies layout (length body) ≡ false →
+      EachTakes header now state (length body)
+  takes_behind before now only torn not_due = record {
+    each = λ image left same.
+        let from = torn.from image left in
+        let one : Torn (layout.gate + 1) (layout.gate + 1 + length buffer) bytes image =
+        subst (λ (b : List ℕ). Torn (layout.gate + 1) (layout.gate + 1 + length buffer) b image) (only.is from.0 from.1) from.2 in
+        due_in_force header image layout state (length body) (behind_torn bytes image laid.in_force one)
+        (other_kept (layout.gate + 1) (layout.gate + 1 + length buffer) bytes image one (omega (arith, past))
+        laid.in_force.cell.room laid.other)
+        ∙ not_due;
+  }
+
   module _ (mid : List ℕ) (written : mid ≡ overwritten bytes (layout.gate + 1) buffer)
       (fits : layout.gate + 1 + length buffer ≤ 2 ^ 62) where
     inside : layout.gate + 1 ≤ length bytes
@@ -140,6 +166,24 @@ module _ (header bytes : List ℕ) (state : State) (layout : Layout) (body buffe
             | inl old ↦ inl (encodes header image layout state old)
             | inr new ↦
                 inr (encodes header image (record layout { gate = layout.gate + length buffer; count = 0 }) (appended state body) new)
+          ];
+    }
+
+    takes_gate : (before now : List ℕ → Type 0) → Only mid before → IsTornFrom layout.gate (layout.gate + 1) before now →
+        is_due state.bodies layout (length body) ≡ false → EachTakes header now state (length body)
+    takes_gate before now only torn not_due = record {
+      each = λ image left same.
+          let from = torn.from image left in
+          let one = subst (λ (b : List ℕ). Torn layout.gate (layout.gate + 1) b image) (only.is from.0 from.1) from.2 in
+          let other : Other image =
+          other_kept layout.gate (layout.gate + 1) mid image one past in_mid.cell.room
+          (other_kept (layout.gate + 1) (layout.gate + 1 + length buffer) bytes mid torn_mid (omega (arith, past))
+          laid.in_force.cell.room laid.other) in
+          elim (gate_torn (layout.gate + length buffer) 0 image refl one) [
+            | inl old ↦ due_in_force header image layout state (length body) old other ∙ not_due
+            | inr new ↦
+                absurd (never_appended state body (sym same
+                ∙ encodes header image (record layout { gate = layout.gate + length buffer; count = 0 }) (appended state body) new))
           ];
     }
 
@@ -226,3 +270,23 @@ returns-clause-layout g c =
       length-spelled c.args.body.now,
     ) in
     ap (λ (n : ℕ). record old { gate = n; count = next old.count }) moved
+
+pub returns-in_err-spell_record-clause-takes : goal.returns-in_err-spell_record-clause-takes
+returns-in_err-spell_record-clause-takes g c =
+    takes_only _ _ _ _ _ _ c.requires.synced.only c.requires.synced.layout c.requires.not_due
+
+pub returns-in_err-keep-clause-takes : goal.returns-in_err-keep-clause-takes
+returns-in_err-keep-clause-takes g c =
+    let spells = c.deref.ensures.value ∙ c.in_ok-spell_record.ensures in
+    takes_behind _ _ _ _ c.args.body.now _ c.requires.synced.layout spells _ _ c.requires.synced.only c.in_err-keep.ensures.images
+    c.requires.not_due
+
+pub returns-in_err-keep-2-clause-takes : goal.returns-in_err-keep-2-clause-takes
+returns-in_err-keep-2-clause-takes g c =
+    let spells = c.deref.ensures.value ∙ c.in_ok-spell_record.ensures in
+    let first = c.in_ok-keep.ensures in
+    takes_gate _ _ _ _ c.args.body.now _ c.requires.synced.layout spells _ first.written first.limit _ _ first.durable
+    c.in_err-keep-2.ensures.images c.requires.not_due
+
+pub returns-clause-takes : goal.returns-clause-takes
+returns-clause-takes g c = takes_none _ _ _ _ _ (returns-clause-appended g c)
