@@ -1,35 +1,24 @@
--- What a disk over a file is, by its copy in memory.
+-- What is so of a disk over a file of the system.
 use Rattle.std.specs.Prelude.{ℕ, List}
-use Rattle.iot_disk.specs.Disk.{Arms, Medium}
-use Rattle.iot_disk.specs.Failures as failures
-use Rattle.iot_disk.specs.Memory as memory
-use Rattle.iot_disk.specs.Memory.{Memory}
-use Rattle.iot_file.specs.declared.disk.FileDisk.{FileDisk}
+use Rattle.iot_disk.specs.Disk.{Arms}
+use Rattle.iot_noted.specs.Noted as noted
+use Rattle.iot_noted.specs.declared.calls.Calls as calls
+use Rattle.iot_noted.specs.declared.host.Host.{Host}
+use Rattle.iot_noted.specs.declared.noted.Noted.{Noted}
 
--- the copy
-abbrev pub copy_of : FileDisk → Memory
-copy_of disk = disk.copy
+module _ {g : calls.Ghosts Host} where
+  -- the bytes that a read gives
+  abbrev pub reads_of : Noted Host g → List ℕ
+  reads_of = noted.reads_of
 
--- the bytes that a read gives
-abbrev pub reads_of : FileDisk → List ℕ
-reads_of disk = disk.copy.written
+  -- what the file may hold after a crash
+  abbrev pub images_of : Noted Host g → List ℕ → Type 0
+  images_of = noted.images_of
 
--- what the file may hold after a crash
-abbrev pub images_of : FileDisk → List ℕ → Type 0
-images_of disk = memory.images_of disk.copy
+  -- how often a device call has failed
+  abbrev pub faults_of : Noted Host g → ℕ
+  faults_of = noted.faults_of
 
--- how often a device call has failed
-abbrev pub faults_of : FileDisk → ℕ
-faults_of disk = disk.faults
-
--- how often it was armed, and with what the last time
-abbrev pub arms_of : FileDisk → Arms
-arms_of disk = failures.arms_of disk.copy.failures
-
--- all of it
-abbrev pub on_file : Medium FileDisk
-on_file = record { reads = reads_of; may_leave = images_of; faults = faults_of; arms = arms_of }
-
--- a disk as it reads is one of its images
-pub reads_is_image_of : (disk : FileDisk) → images_of disk (reads_of disk)
-reads_is_image_of disk = memory.reads_is_image disk.copy.written disk.copy.synced disk.copy.unsynced
+  -- how often it was armed, and with what the last time
+  abbrev pub arms_of : Noted Host g → Arms
+  arms_of = noted.arms_of

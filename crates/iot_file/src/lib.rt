@@ -1,11 +1,9 @@
 //! A disk over a real file.
 #![tactic(auto)]
 
-mod agreeing;
-mod disk;
 mod opening;
+mod own;
 #[cfg(test)]
 mod tests;
 
-pub use disk::FileDisk;
-pub use opening::{OpenFault, open};
+pub use opening::{FileDisk, OpenFault, open};

@@ -1,0 +1,4 @@
+pub mod Events
+pub mod Hosts
+pub mod Images
+pub mod Noted
