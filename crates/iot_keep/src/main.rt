@@ -1,10 +1,15 @@
 //! The program: `serve` on the disk in a file, standard input and output.
 #![tactic(auto)]
 
+#[cfg(test)]
+mod tests;
+
+use iot_disk::MemDisk;
 use iot_file::{OpenFault, open};
-use iot_io::{StdSink, StdSource};
+use iot_io::{Sink, Source, StdSink, StdSource};
 use iot_keep_app::{ServeFault, serve};
-use std::alloc::Alloc;
+use iot_server::Server;
+use std::alloc::{Alloc, Global};
 use std::env;
 use std::process::ExitCode;
 use thiserror::Error;
@@ -26,6 +31,7 @@ impl Fault {
         match self {
             Fault::Usage => 1,
             Fault::Open(OpenFault::NoMemory) => 5,
+            Fault::Open(OpenFault::Foreign) => 3,
             Fault::Open(_) => 2,
             Fault::Serve(fault) => fault.code(),
         }
@@ -45,15 +51,34 @@ fn main(rt: HostRuntime) -> ExitCode {
 /// Serves from the file that the one word names.
 fn run(rt: &HostRuntime) -> Result<(), Fault> {
     let path = path(rt)?;
-    let disk = match open(rt, path.as_str()) {
+    let mut source = StdSource::new(rt.stdin());
+    let mut sink = StdSink::new(rt.stdout());
+    keep(rt, path.as_str(), &mut source, &mut sink)
+}
+
+/// Serves from the file at this path.
+fn keep<S: Source, K: Sink>(
+    rt: &HostRuntime,
+    path: &str,
+    source: &mut S,
+    sink: &mut K,
+) -> Result<(), Fault> {
+    let first = first(rt.alloc())?;
+    let disk = match open(rt, path, first.bytes()) {
         Ok(disk) => disk,
         Err(fault) => return Err(Fault::Open(fault)),
     };
-    let mut source = StdSource::new(rt.stdin());
-    let mut sink = StdSink::new(rt.stdout());
-    match serve(rt.alloc(), disk, &mut source, &mut sink).result {
+    match serve(rt.alloc(), disk, source, sink).result {
         Ok(()) => Ok(()),
         Err(fault) => Err(Fault::Serve(fault)),
+    }
+}
+
+/// The disk of a server that was just started, by which a file is told that something else has written.
+fn first(alloc: Global) -> Result<MemDisk, Fault> {
+    match Server::start(alloc, MemDisk::new(alloc)) {
+        Ok(server) => Ok(server.into_disk()),
+        Err(_) => Err(Fault::Serve(ServeFault::NoMemory)),
     }
 }
 

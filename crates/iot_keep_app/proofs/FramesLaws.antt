@@ -11,7 +11,8 @@ use Rattle.std.proofs.lemmas.Nat.{be_bytes_8}
 use Rattle.iot_io.specs.ReadAll.{Took}
 use Rattle.iot_io.proofs.ReadAllLaws.{Took-more}
 use Rattle.iot_records.specs.Bytes.{number, number_in}
-use Rattle.iot_keep_app.specs.Frames.{frame, TookPart, IsShort, IsFront, IsCut, IsFilledBefore, FrameFails, WriteEnds}
+use Rattle.iot_keep_app.specs.Frames.{frame, TookFrame, TookPart, IsShort, IsFront, IsCut, IsFilledBefore, FrameFails, WriteEnds}
+use Rattle.iot_keep_app.specs.declared.frames.TheConstants.{FRAME_LIMIT}
 use Rattle.iot_keep_app.specs.declared.fault.ServeFault.{ServeFault}
 use Rattle.iot_keep_app.specs.declared.fault.ServeFault.TheVariants.{NoMemory, Foreign, Damaged, Stopped, ReadFailed, Cut}
 use Rattle.iot_keep_app.specs.declared.fault.ServeFault.TheVariants.{TooLong, WriteFailed, TooMany}
@@ -38,15 +39,21 @@ spells digits count eight is small = be_bytes_8 digits count eight small (is ∙
 
 -- the number was read, and then some of the bytes that it says
 module _ {S : Type 0} (left : S → Option (List ℕ)) (taken : S → ℕ) (old mid new : S) (digits : List ℕ) (count : ℕ)
-    (first : Took left taken old mid digits) (eight : length digits ≡ 8) (is : count ≡ number_in digits) where
+    (first : Took left taken old mid digits) (eight : length digits ≡ 8) (is : count ≡ number_in digits) (within : count ≤ FRAME_LIMIT) where
   number_of : (part : List ℕ) → number_in (digits ++ part) ≡ count
   number_of part = same_number digits part eight ∙ sym (is ∙ own_number digits eight)
 
   long : (part : List ℕ) → length (digits ++ part) ≡ 8 + length part
   long part = omega (arith, length-append digits part, eight)
 
+  limit : (part : List ℕ) → number_in (digits ++ part) ≤ FRAME_LIMIT
+  limit part = omega (arith, number_of part, within)
+
   is_short : (part : List ℕ) → length part < count → IsShort (digits ++ part)
-  is_short part less = record { short = omega (arith, long part, number_of part, less) }
+  is_short part less = record {
+    short = omega (arith, long part, number_of part, less);
+    limit = λ whole. limit part;
+  }
 
   pub some_taken : (part : List ℕ) → Took left taken mid new part → length part < count → TookPart (Took left taken old new) IsShort
   some_taken part second less = record {
@@ -63,16 +70,16 @@ module _ {S : Type 0} (left : S → Option (List ℕ)) (taken : S → ℕ) (old 
   }
 
   pub front_taken : (part : List ℕ) → Took left taken mid new part → length part ≤ count → TookPart (Took left taken old new) IsFront
-  front_taken part second within = record {
+  front_taken part second filled = record {
     part = digits ++ part;
     taken = Took-more left taken old mid new digits part first second;
-    is = record { within = omega (arith, long part, number_of part, within) };
+    is = record { within = omega (arith, long part, number_of part, filled); limit = λ more. limit part };
   }
 
   pub fill_fails : (at_end : Type 0) (fault : ServeFault)
       → ((part : List ℕ) × Took left taken mid new part × IsFilledBefore fault count (length part))
       → FrameFails (Took left taken old new) at_end fault
-  fill_fails at_end NoMemory (part, second, within) = front_taken part second within
+  fill_fails at_end NoMemory (part, second, filled) = front_taken part second filled
   fill_fails at_end ReadFailed (part, second, less) = some_taken part second less
   fill_fails at_end Foreign (part, second, none) = absurd none
   fill_fails at_end (Damaged at) (part, second, none) = absurd none
@@ -83,11 +90,14 @@ module _ {S : Type 0} (left : S → Option (List ℕ)) (taken : S → ℕ) (old 
   fill_fails at_end TooMany (part, second, none) = absurd none
 
   pub frame_taken : (bytes : List ℕ) → Took left taken mid new bytes → length bytes ≡ count → number count ≡ digits
-      → Took left taken old new (frame bytes)
-  frame_taken bytes second whole spelled =
-      subst (λ (l : List ℕ). Took left taken old new (l ++ bytes))
-      (sym (ap number whole ∙ spelled))
-      (Took-more left taken old mid new digits bytes first second)
+      → TookFrame (Took left taken old new) bytes
+  frame_taken bytes second whole spelled = record {
+    taken =
+        subst (λ (l : List ℕ). Took left taken old new (l ++ bytes))
+        (sym (ap number whole ∙ spelled))
+        (Took-more left taken old mid new digits bytes first second);
+    limit = omega (arith, whole, within);
+  }
 
 number_is : (n : ℕ) → to_be_bytes w64 n ≡ number n
 unfolding number

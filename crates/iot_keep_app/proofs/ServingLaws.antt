@@ -7,8 +7,8 @@ use Rattle.std.proofs.KnownBytes.{Appends-trans}
 use Rattle.std.proofs.lemmas.List.{append-nil}
 use Rattle.iot_io.specs.ReadAll.{Took}
 use Rattle.iot_io.proofs.ReadAllLaws.{Took-more}
-use Rattle.iot_keep_app.specs.Frames.{frame, FrameFails, TookPart, WroteFront, WriteEnds}
-use Rattle.iot_keep_app.specs.Serving.{Kept, Exchange, Effects, EachKeeps, IsAnswered, Leads, asked, told, after, Rests, Served, Fails}
+use Rattle.iot_keep_app.specs.Frames.{frame, FrameFails, TookFrame, TookPart, WroteFront, WriteEnds}
+use Rattle.iot_keep_app.specs.Serving.{Kept, Exchange, Effects, EachKeeps, IsAnswered, IsServed, Leads, asked, told, after, Rests, Served, Fails}
 use Rattle.iot_keep_app.specs.Serving.{AtFrame, AtReply, AnswerFails, AnswerEnds, Exchanged, FailsAfter, ServeFails}
 use Rattle.iot_keep_app.specs.Serving.{StepEnds, WroteReply}
 use Rattle.iot_keep_app.specs.declared.fault.ServeFault.{ServeFault}
@@ -27,10 +27,10 @@ pub record SoFar (it : Effects) (start now : Kept) (count : ℕ) : Type 0 where
   pub keeps : EachKeeps it.images now.state
 
 -- one more
-leads_more : (first : Kept) (done : List Exchange) (mid now : Kept) (it : Exchange) → Leads first done mid → IsAnswered mid it now
+leads_more : (first : Kept) (done : List Exchange) (mid now : Kept) (it : Exchange) → Leads first done mid → IsServed mid it now
     → Leads first (done ++ it ∷ []) now
-leads_more first [] mid now it leads answered = (now, subst (λ (k : Kept). IsAnswered k it now) leads answered, refl)
-leads_more first (x ∷ done) mid now it (next, is, leads) answered = (next, is, leads_more next done mid now it leads answered)
+leads_more first [] mid now it leads served = (now, subst (λ (k : Kept). IsServed k it now) leads served, refl)
+leads_more first (x ∷ done) mid now it (next, is, leads) served = (next, is, leads_more next done mid now it leads served)
 
 asked_more : (done : List Exchange) (it : Exchange) → asked (done ++ it ∷ []) ≡ asked done ++ frame it.request
 asked_more [] it = append-nil (frame it.request)
@@ -102,7 +102,7 @@ module _ {S : Type 0} (left : S → Option (List ℕ)) (taken : S → ℕ) (s0 s
     goes_on now it = record {
       exchanges = far.exchanges ++ it.exchange ∷ [];
       counted = omega (arith, length-append far.exchanges (it.exchange ∷ []), far.counted);
-      leads = leads_more start far.exchanges mid now it.exchange far.leads it.answered;
+      leads = leads_more start far.exchanges mid now it.exchange far.leads it.served;
       took = subst (Took left taken s0 s2) (sym (asked_more far.exchanges it.exchange)) (into _ it.took);
       wrote = subst (Appends w0 w2) (sym (told_more far.exchanges it.exchange)) (onto _ it.wrote);
       keeps = it.keeps;
@@ -124,7 +124,7 @@ module _ {S : Type 0} (left : S → Option (List ℕ)) (taken : S → ℕ) (s0 s
     at_reply : (fault : ServeFault) → AtReply step mid fault → AtReply (after whole far.exchanges) mid fault
     at_reply fault it = record {
       request = it.request;
-      took = into _ it.took;
+      took = record { taken = into _ it.took.taken; limit = it.took.limit };
       fails = answer_in _ _ images2 mid it.request onto fault it.fails;
     }
 
@@ -185,12 +185,15 @@ reply_ends T wrote images before now request reply text same answered keeps resu
     (subst (λ (l : List ℕ). WriteEnds wrote (frame l) result) same front)
 
 -- one request was read and answered
-pub exchanged : (it : Effects) (before now : Kept) (request text : List ℕ) → text ≡ request → it.took (frame request)
+pub exchanged : (it : Effects) (before now : Kept) (request text : List ℕ) → text ≡ request → TookFrame it.took request
     → WroteReply it.wrote it.images before text now → Exchanged it before now
 exchanged it before now request text same took done = record {
   exchange = record { request = request; reply = done.reply };
-  took = took;
-  answered = subst (λ (l : List ℕ). IsAnswered before (record { request = l; reply = done.reply }) now) same done.answered;
+  took = took.taken;
+  served = record {
+    limit = took.limit;
+    answered = subst (λ (l : List ℕ). IsAnswered before (record { request = l; reply = done.reply }) now) same done.answered;
+  };
   wrote = done.written;
   keeps = done.keeps;
 }

@@ -10,13 +10,16 @@ use Rattle.iot_keep_app.specs.declared.frames.TheConstants.{FRAME_LIMIT}
 abbrev pub frame : List ℕ → List ℕ
 frame bytes = number (length bytes) ++ bytes
 
--- fewer bytes than the number has and says; if there are not eight, that is so whatever they say
+-- fewer bytes than the number has and says; if there are not eight, that is so whatever they say. If the number is there, it is within the
+-- limit.
 pub record IsShort (part : List ℕ) : Type 0 where
   pub short : length part < 8 + number_in part
+  pub limit : 8 ≤ length part → number_in part ≤ FRAME_LIMIT
 
--- no more bytes than the number has and says
+-- no more bytes than the number has and says, which is within the limit if any byte follows it
 pub record IsFront (part : List ℕ) : Type 0 where
   pub within : length part ≤ 8 + number_in part
+  pub limit : 8 < length part → number_in part ≤ FRAME_LIMIT
 
 -- fewer bytes than that, and some
 pub record IsCut (part : List ℕ) : Type 0 where
@@ -34,6 +37,11 @@ pub record TookPart (took : List ℕ → Type 0) (Is : List ℕ → Type 0) : Ty
   pub taken : took part
   pub is : Is part
 
+-- the frame of these bytes was taken, which is within the limit
+pub record TookFrame (took : List ℕ → Type 0) (bytes : List ℕ) : Type 0 where
+  pub taken : took (frame bytes)
+  pub limit : length bytes ≤ FRAME_LIMIT
+
 -- so many bytes of those that were wanted were taken before this fault
 abbrev pub IsFilledBefore : ServeFault → (most count : ℕ) → Type 0
 IsFilledBefore NoMemory most count = count ≤ most
@@ -50,7 +58,7 @@ FrameFails took at_end other = ⊥
 
 -- how reading a frame ends: with the frame of these bytes, with none at the end of the input, or with a fault
 abbrev pub FrameEnds : (took : List ℕ → Type 0) → (at_end : Type 0) → Result (Option (Vec ℕ Global)) ServeFault → Type 0
-FrameEnds took at_end (Ok (Some bytes)) = took (frame bytes.items)
+FrameEnds took at_end (Ok (Some bytes)) = TookFrame took bytes.items
 FrameEnds took at_end (Ok None) = took [] × at_end
 FrameEnds took at_end (Err fault) = FrameFails took at_end fault
 

@@ -1,5 +1,5 @@
 -- What a server that serves frames answers, and how it ends.
-use Rattle.std.specs.Prelude.{◌≡◌, ◌⊎◌, ℕ, ◌-◌, ◌^◌, List, [], ◌∷◌, ◌++◌, length, Result, Ok, Err}
+use Rattle.std.specs.Prelude.{◌≡◌, ◌≤◌, ◌⊎◌, ℕ, ◌-◌, ◌^◌, List, [], ◌∷◌, ◌++◌, length, Result, Ok, Err}
 use Rattle.iot_disk.specs.Disk.{Medium}
 use Rattle.iot_server.specs.Faults.{CutsOff}
 use Rattle.iot_server.specs.Replies.{IsHandled}
@@ -12,10 +12,11 @@ use Rattle.iot_wire.specs.Messages.{IsMessage}
 use Rattle.iot_wire.specs.Rules.{IsRequest}
 use Rattle.iot_wire.specs.Spelling.{request_spelling}
 use Rattle.iot_wire.specs.declared.requests.Request.{Request}
-use Rattle.iot_keep_app.specs.Frames.{frame, FrameFails, WroteFront}
+use Rattle.iot_keep_app.specs.Frames.{frame, FrameFails, TookFrame, WroteFront}
 use Rattle.iot_keep_app.specs.declared.fault.ServeFault.{ServeFault}
 use Rattle.iot_keep_app.specs.declared.fault.ServeFault.TheVariants.{NoMemory, Foreign, Damaged, Stopped, ReadFailed, Cut}
 use Rattle.iot_keep_app.specs.declared.fault.ServeFault.TheVariants.{TooLong, WriteFailed, TooMany}
+use Rattle.iot_keep_app.specs.declared.frames.TheConstants.{FRAME_LIMIT}
 use Rattle.iot_keep_app.specs.declared.serving.Next.{Next}
 use Rattle.iot_keep_app.specs.declared.serving.Next.TheVariants.{Answered, AtEnd as NoMore}
 
@@ -48,10 +49,15 @@ abbrev pub IsAnswered : Kept → Exchange → Kept → Type 0
 IsAnswered before it after =
     IsHandled before.state before.encoded it.request it.reply after.state after.encoded ⊎ IsTurnedDown before it after
 
--- each in turn is answered so, from what was kept first to what is kept last
+-- a request within the limit of a frame was answered so
+pub record IsServed (before : Kept) (it : Exchange) (after : Kept) : Type 0 where
+  pub limit : length it.request ≤ FRAME_LIMIT
+  pub answered : IsAnswered before it after
+
+-- each in turn was, from what was kept first to what is kept last
 abbrev pub Leads : Kept → List Exchange → Kept → Type 0
 Leads before [] after = after ≡ before
-Leads before (it ∷ later) after = (mid : Kept) × IsAnswered before it mid × Leads mid later after
+Leads before (it ∷ later) after = (mid : Kept) × IsServed before it mid × Leads mid later after
 
 -- the frames of the requests, one after another
 abbrev pub asked : List Exchange → List ℕ
@@ -101,7 +107,7 @@ pub record Rests (it : Effects) (kept : Kept) : Type 0 where
 pub record Exchanged (it : Effects) (before after : Kept) : Type 0 where
   pub exchange : Exchange
   pub took : it.took (frame exchange.request)
-  pub answered : IsAnswered before exchange after
+  pub served : IsServed before exchange after
   pub wrote : it.wrote (frame exchange.reply)
   pub keeps : EachKeeps it.images after.state
 
@@ -141,7 +147,7 @@ pub record AtFrame (it : Effects) (kept : Kept) (fault : ServeFault) : Type 0 wh
 -- a request was read, and answering it failed
 pub record AtReply (it : Effects) (kept : Kept) (fault : ServeFault) : Type 0 where
   pub request : List ℕ
-  pub took : it.took (frame request)
+  pub took : TookFrame it.took request
   pub fails : AnswerFails it.wrote it.images kept request fault
 
 -- by the fault, what was done of the request that was not answered in full

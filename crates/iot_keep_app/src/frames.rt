@@ -1,16 +1,15 @@
 //! Frames.
-ghost use Rattle.std.specs.Prelude.{◌≡◌, ◌≤◌, ◌<◌, List, ℕ, [], length, take, vec_len, IfOk, IfErr, OnOk, OnErr, MatchResult};
+ghost use Rattle.std.specs.Prelude.{◌≡◌, ◌≤◌, ◌<◌, List, ℕ, length, vec_len, IfOk, IfErr};
 ghost use Rattle.std.specs.Io.KnownBytes.{Appends, IsAtEnd};
-ghost use Rattle.iot_count.specs.Counts.{Rose};
 ghost use Rattle.iot_io.specs.ReadAll.{Took};
 ghost use Rattle.iot_records.specs.Bytes.{number, number_in};
 ghost use Rattle.iot_keep_app.specs.Frames.{frame, FrameEnds, IsFilledBefore, WriteEnds};
 ghost use Rattle.iot_keep_app.specs.Status.{SinkCounts, SourceCounts};
 
 use crate::ServeFault;
-use iot_io::{Failed, Sink, Source, write_all};
+use iot_io::{Sink, Source, read_front, write_all, zeros};
 use iot_records::number_at;
-use std::alloc::{AllocError, Global};
+use std::alloc::Global;
 
 /// The most bytes that a frame has after its number.
 pub const FRAME_LIMIT: u64 = 268_435_456;
@@ -83,27 +82,6 @@ fn fill<S: Source>(alloc: Global, source: &mut S, most: usize) -> Result<Vec<u8>
         bytes.extend_from_slice(&chunk[..count])?;
     }
     Ok(bytes)
-}
-
-/// So many zeros.
-fn zeros(alloc: Global, count: usize) -> Result<Vec<u8>, AllocError>
-    ensures { IfOk result (λ bytes. vec_len bytes ≡ count) }
-{
-    vec![in alloc; 0; count]
-}
-
-/// One read of at most so many bytes into the front of the chunk.
-fn read_front<S: Source>(source: &mut S, chunk: &mut [u8], most: usize) -> Result<usize, Failed>
-    requires { most ≤ length chunk.old }
-    ensures bound { IfOk result (λ n. n ≤ most) }
-    ensures took { MatchResult result
-        (λ n. Took S.left S.taken source.old source.new (take n chunk.new))
-        (λ _. Took S.left S.taken source.old source.new []) }
-    ensures end { IfOk result (λ n. n ≡ 0 → 0 < most → IsAtEnd (S.left source.new)) }
-    ensures steady { OnOk result (S.faults source.new ≡ S.faults source.old) }
-    ensures failed { OnErr result (Rose (S.faults source.old) (S.faults source.new)) }
-{
-    source.read(&mut chunk[..most])
 }
 
 /// Writes the frame of these bytes.

@@ -11,7 +11,8 @@ returns-in_err-bytes-clause-frame g c =
     rw (p.1, p.2) (fill_fails source.left source.taken c.args.source.now c.fill.new.source c.fill-2.new.source
     c.in_ok-digits.digits.items c.count_in-count.result c.in_ok-digits.ensures.took
     (omega (arith, c.in_ok-digits.ensures.within, c.in_ok-digits.digits.ok.0, c.if-len-lt-DIGITS.false, c.len.ensures))
-    (c.count_in-count.ensures.number ∙ ap (λ (l : List ℕ). number_in l) c.deref.ensures.value) _ c.in_err-bytes.field-0.0
+    (c.count_in-count.ensures.number ∙ ap (λ (l : List ℕ). number_in l) c.deref.ensures.value)
+    (omega (arith, c.if-count-gt-FRAME_LIMIT.false)) _ c.in_err-bytes.field-0.0
     c.in_err-bytes.ensures.prefix)
 
 pub returns-then-len-count-clause-frame : goal.returns-then-len-count-clause-frame
@@ -21,6 +22,7 @@ returns-then-len-count-clause-frame g c =
           c.in_ok-digits.digits.items c.count_in-count.result c.in_ok-digits.ensures.took
           (omega (arith, c.in_ok-digits.ensures.within, c.in_ok-digits.digits.ok.0, c.if-len-lt-DIGITS.false, c.len.ensures))
           (c.count_in-count.ensures.number ∙ ap (λ (l : List ℕ). number_in l) c.deref.ensures.value)
+          (omega (arith, c.if-count-gt-FRAME_LIMIT.false))
           c.in_ok-bytes.bytes.items c.in_ok-bytes.ensures.took (omega arith),
       c.in_ok-bytes.ensures.end (omega arith),
     )
@@ -33,6 +35,7 @@ returns-clause-frame g c =
     c.in_ok-digits.digits.items c.count_in-count.result c.in_ok-digits.ensures.took
     (omega (arith, c.in_ok-digits.ensures.within, c.in_ok-digits.digits.ok.0, c.if-len-lt-DIGITS.false, c.len.ensures))
     (c.count_in-count.ensures.number ∙ ap (λ (l : List ℕ). number_in l) c.deref.ensures.value)
+    (omega (arith, c.if-count-gt-FRAME_LIMIT.false))
     c.in_ok-bytes.bytes.items c.in_ok-bytes.ensures.took
     (omega (arith, within, c.in_ok-bytes.bytes.ok.0, c.if-len-count.false, c.len-2.ensures))
     (c.count_in-count.ensures.spelled ∙ c.deref.ensures.value)
