@@ -24,3 +24,4 @@ pub use disks::empty_disks;
 pub use image::IMAGE_LIMIT;
 pub use input::INPUT_LIMIT;
 pub use job::{Outcome, run};
+pub use refusing::refusal_line;

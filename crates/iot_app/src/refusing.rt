@@ -60,8 +60,11 @@ fn fault_line(alloc: Global, number: u64, what: &[u8]) -> Result<Text, NoMemory>
     Ok(text)
 }
 
-/// The line that names the fault of the first bad line.
-fn refusal_line(alloc: Global, fault: &EventFault) -> Result<Text, NoMemory>
+/// The line that says why an input is no event script: it names the fault of the first bad line, and ends with a newline. Running out of
+/// memory is no fault of a line, and says nothing.
+///
+/// Fails if memory runs out.
+pub fn refusal_line(alloc: Global, fault: &EventFault) -> Result<Text, NoMemory>
     ensures { IfOk result (λ text. text ≡ refusal_line fault.now) }
 {
     match fault {

@@ -1,7 +1,7 @@
 //! The lines of a profile.
 ghost use Rattle.std.specs.Prelude.{◌≡◌, ◌+◌, ◌<◌, ◌^◌, length, IfOk};
 ghost use Rattle.iot_lines.specs.Words.{words};
-ghost use Rattle.iot_event.specs.Profiles.{wish_with, wish_of, wish_after, after_line, closed_with, profile_of};
+ghost use Rattle.iot_event.specs.Profiles.{wish_with, wish_of, wish_after, after_line, profile_of};
 ghost use Rattle.iot_event.specs.Results.{closed_of, AnswersWishes, LeavesWishes};
 
 use crate::bytes::fits_line;

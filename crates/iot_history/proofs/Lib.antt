@@ -1,2 +1,4 @@
 pub mod ContinuingLaws
+pub mod CountsLaws
 pub mod EndingLaws
+pub mod MarksLaws

@@ -1,5 +1,6 @@
--- The statuses of a run.
-use Rattle.std.specs.Prelude.{◌≡◌, ℕ}
+-- The statuses of a run: their numbers, and which counts of faults rise with them.
+use Rattle.std.specs.Prelude.{◌≡◌, ◌⊎◌, ℕ, Result, Ok, Err}
+use Rattle.iot_count.specs.Counts.{Counted, HasRisen, IsSteady}
 use Rattle.iot_disk.specs.declared.faults.StartFault.{StartFault}
 use Rattle.iot_disk.specs.declared.faults.StartFault.TheVariants as start
 use Rattle.iot_disk.specs.declared.faults.JournalFault.{JournalFault}
@@ -25,7 +26,7 @@ ended_by_start start.Stopped = statuses.Stopped
 ended_by_start start.Foreign = statuses.NoJournal
 ended_by_start (start.Damaged at) = statuses.NoJournal
 
--- that of a run whose input could not be recorded
+-- that of a run that could not append to its journal
 abbrev pub ended_by_append : JournalFault → Status
 ended_by_append journal.NoMemory = statuses.NoMemory
 ended_by_append journal.Stopped = statuses.Stopped
@@ -35,3 +36,23 @@ pub record HasStatus (code : ℕ) (holds : Status → Type 0) : Type 0 where
   pub status : Status
   pub is : code ≡ code_of status
   pub so : holds status
+
+-- that of a call
+abbrev pub ended : {T : Type 0} → Result T Status → Status
+ended (Ok _) = statuses.Done
+ended (Err status) = status
+
+-- the source's count of faults rises with this status and with no other
+abbrev pub SourceCounts : Status → Counted → Type 0
+SourceCounts statuses.ReadFailed faults = HasRisen faults
+SourceCounts status faults = IsSteady faults
+
+-- the sink's count of faults or that of empty writes rises with this status, and neither with another
+abbrev pub SinkCounts : Status → (faults empties : Counted) → Type 0
+SinkCounts statuses.WriteFailed faults empties = HasRisen faults ⊎ HasRisen empties
+SinkCounts status faults empties = IsSteady faults × IsSteady empties
+
+-- the count of faults of the journal's disk rises with this status and with no other
+abbrev pub DiskCounts : Status → Counted → Type 0
+DiskCounts statuses.Stopped faults = HasRisen faults
+DiskCounts status faults = IsSteady faults

@@ -1,11 +1,11 @@
 //! The new input.
-ghost use Rattle.std.specs.Prelude.{◌≡◌, ◌++◌, [], IfOk, IfErr};
+ghost use Rattle.std.specs.Prelude.{◌≡◌, ◌++◌, [], IfOk, IfErr, OnOk};
 ghost use Rattle.std.specs.Io.KnownBytes.{IsAtEnd};
 ghost use Rattle.iot_io.specs.ReadAll.{Took};
 ghost use Rattle.iot_event.specs.Declarations.{AreDeclared};
 ghost use Rattle.iot_event.specs.Events.{Gives, Events};
 ghost use Rattle.iot_event.specs.Results.{HasFault};
-ghost use Rattle.iot_history.specs.Input.{TookText, TookFor};
+ghost use Rattle.iot_history.specs.Input.{InputCounts, TookText, TookFor};
 
 use iot_app::INPUT_LIMIT;
 use iot_event::{Event, EventFault, parse};
@@ -34,11 +34,11 @@ pub(crate) enum InputFault {
     /// The input is over its limit.
     TooLong,
 
-    /// Behind the earlier inputs it is no event script, by this fault of the first bad line of all.
+    /// It is no event script after the earlier inputs, by this fault of the first bad line of all.
     NoScript(EventFault),
 }
 
-/// Reads the source to its end, and takes what it has behind this text of the earlier inputs.
+/// Reads the source to its end, and takes what it has as more lines after this text of the earlier inputs.
 pub(crate) fn read_input<S: Source>(
     alloc: Global,
     source: &mut S,
@@ -50,6 +50,9 @@ pub(crate) fn read_input<S: Source>(
     ensures declared { IfOk result (λ input. AreDeclared input.events.items 0 []) }
     ensures none { IfErr result (λ fault.
         TookFor past.now fault (Took S.left S.taken source.old source.new) (IsAtEnd (S.left source.new))) }
+    ensures steady { OnOk result (S.faults source.new ≡ S.faults source.old) }
+    ensures cause { IfErr result (λ fault.
+        InputCounts fault (record { before = S.faults source.old; after = S.faults source.new })) }
 {
     let mut text = match read_all(alloc, source, INPUT_LIMIT) {
         Ok(text) => text,
@@ -67,7 +70,7 @@ pub(crate) fn read_input<S: Source>(
     }
 }
 
-/// The events of two texts, the one behind the other.
+/// The events of two texts, one after the other.
 fn events_of(alloc: Global, past: &[u8], text: &[u8]) -> Result<Vec<Event>, EventFault>
     ensures events { IfOk result (λ events. Gives (past.now ++ text.now) (Events events.items)) }
     ensures declared { IfOk result (λ events. AreDeclared events.items 0 []) }

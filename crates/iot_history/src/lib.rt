@@ -1,5 +1,5 @@
-//! Days that go on tomorrow: the events of all inputs so far are in a journal on a disk that outlives the process. A run does those of the
-//! earlier inputs again, on disks in memory, and writes only what the events of the new input say.
+//! Days that go on tomorrow: the events of all inputs so far are in a journal on a disk that outlives the process, and so is how much of
+//! their transcript was said. A run does those of the earlier inputs again, on disks in memory, and writes only what was not said before.
 #![tactic(auto)]
 
 mod going;
@@ -8,6 +8,8 @@ mod past;
 mod playing;
 mod refusing;
 mod status;
+#[cfg(test)]
+mod tests;
 mod writing;
 
 pub use going::{Outcome, go_on};

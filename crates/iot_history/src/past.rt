@@ -1,7 +1,7 @@
 //! What the earlier runs have recorded.
-ghost use Rattle.std.specs.Prelude.{◌≡◌, ◌+◌, ◌<◌, ◌^◌, ◌==◌, if◌then◌else◌, IfOk, IfErr};
+ghost use Rattle.std.specs.Prelude.{◌≡◌, IfOk, IfErr, OnOk};
 ghost use Rattle.std.specs.List.{concat};
-ghost use Rattle.iot_history.specs.Past.{IsPast, IsNoPast};
+ghost use Rattle.iot_history.specs.Past.{GivesSome, IsNoPast, marks_in};
 
 use crate::status::Status;
 use iot_disk::Bodies;
@@ -14,44 +14,50 @@ pub(crate) struct Past {
     /// The texts of all inputs, one after another.
     pub(crate) text: Vec<u8>,
 
-    /// How many pieces of the transcript were written: that of the opening, and one for each event. None if nothing is recorded.
+    /// How many pieces of the transcript are marked as said: the first is that of the opening, and then each event has one.
     pub(crate) pieces: usize,
 }
 
-/// What these texts are of earlier runs.
-pub(crate) fn past_of(alloc: Global, texts: &Bodies) -> Result<Past, Status>
-    ensures past { IfOk result (λ past. past.text.items ≡ concat texts.now) }
-    ensures pieces { IfOk result (λ past. IsPast texts.now past.pieces) }
-    ensures none { IfErr result (λ status. IsNoPast texts.now status) }
+/// What these bodies are of earlier runs.
+pub(crate) fn past_of(alloc: Global, bodies: &Bodies) -> Result<Past, Status>
+    ensures text { IfOk result (λ past. past.text.items ≡ concat bodies.now) }
+    ensures pieces { IfOk result (λ past. past.pieces ≡ marks_in bodies.now) }
+    ensures gives { OnOk result (GivesSome bodies.now) }
+    ensures none { IfErr result (λ status. IsNoPast bodies.now status) }
 {
-    let text = match joined(alloc, texts) {
+    let text = match joined(alloc, bodies) {
         Ok(text) => text,
         Err(_) => return Err(Status::NoMemory),
     };
-    let events = match parse(alloc, &text) {
-        Ok(events) => events,
+    match parse(alloc, &text) {
+        Ok(_) => (),
         Err(EventFault::NoMemory) => return Err(Status::NoMemory),
         Err(_) => return Err(Status::NoHistory),
-    };
-    let pieces = pieces_of(texts.len(), events.len());
+    }
+    let pieces = count_marks(bodies);
     Ok(Past { text, pieces })
 }
 
-/// How many pieces so many texts with so many events have.
-fn pieces_of(texts: usize, events: usize) -> usize
-    requires { events + 1 < 2 ^ 64 }
-    ensures { result ≡ (if texts == 0 then 0 else events + 1) }
+/// How many of these bodies are marks: all but the texts.
+fn count_marks(bodies: &Bodies) -> usize
+    ensures { result ≡ marks_in bodies.now }
 {
-    if texts == 0 { 0 } else { events + 1 }
+    let mut marks = bodies.len();
+    'bodies: for body in bodies.iter() {
+        if !body.is_empty() {
+            marks -= 1;
+        }
+    }
+    marks
 }
 
-/// Texts, one after another.
-fn joined(alloc: Global, texts: &Bodies) -> Result<Vec<u8>, AllocError>
-    ensures { IfOk result (λ bytes. bytes.items ≡ concat texts.now) }
+/// Bodies, one after another.
+fn joined(alloc: Global, bodies: &Bodies) -> Result<Vec<u8>, AllocError>
+    ensures { IfOk result (λ bytes. bytes.items ≡ concat bodies.now) }
 {
     let mut bytes = Vec::new(alloc);
-    'texts: for text in texts.iter() {
-        bytes.extend_from_slice(text)?;
+    'bodies: for body in bodies.iter() {
+        bytes.extend_from_slice(body)?;
     }
     Ok(bytes)
 }

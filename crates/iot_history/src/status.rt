@@ -1,8 +1,10 @@
 //! How a run ends.
 ghost use Rattle.std.specs.Prelude.{◌≡◌};
 ghost use Rattle.iot_history.specs.Status.{code_of, ended_by_start, ended_by_append};
+ghost use Rattle.iot_history.specs.declared.status.Status.TheVariants.{WriteFailed};
 
 use iot_disk::{JournalFault, StartFault};
+use iot_io::SinkFault;
 
 /// How a run ends.
 #[derive(Clone, Copy, Debug, PartialEq, Eq)]
@@ -33,28 +35,6 @@ pub(crate) enum Status {
 }
 
 impl Status {
-    /// The status of a run whose journal does not start.
-    pub(crate) fn of_start(fault: StartFault) -> Status
-        ensures { result ≡ ended_by_start fault }
-    {
-        match fault {
-            StartFault::NoMemory => Status::NoMemory,
-            StartFault::Stopped => Status::Stopped,
-            StartFault::Foreign => Status::NoJournal,
-            StartFault::Damaged { .. } => Status::NoJournal,
-        }
-    }
-
-    /// The status of a run whose input could not be recorded.
-    pub(crate) fn of_append(fault: JournalFault) -> Status
-        ensures { result ≡ ended_by_append fault }
-    {
-        match fault {
-            JournalFault::NoMemory => Status::NoMemory,
-            JournalFault::Stopped => Status::Stopped,
-        }
-    }
-
     /// The number that the process ends with.
     pub(crate) fn code(self) -> u8
         ensures { result ≡ code_of self }
@@ -69,5 +49,39 @@ impl Status {
             Status::NoJournal => 7,
             Status::NoHistory => 8,
         }
+    }
+}
+
+/// That of a run whose journal does not start.
+impl From<StartFault> for Status {
+    ghost from_gives = { λ fault status. status ≡ ended_by_start fault };
+
+    fn from(fault: StartFault) -> Self {
+        match fault {
+            StartFault::NoMemory => Status::NoMemory,
+            StartFault::Stopped => Status::Stopped,
+            StartFault::Foreign => Status::NoJournal,
+            StartFault::Damaged { .. } => Status::NoJournal,
+        }
+    }
+}
+
+/// That of a run that could not append to its journal.
+impl From<JournalFault> for Status {
+    ghost from_gives = { λ fault status. status ≡ ended_by_append fault };
+
+    fn from(fault: JournalFault) -> Self {
+        match fault {
+            JournalFault::NoMemory => Status::NoMemory,
+            JournalFault::Stopped => Status::Stopped,
+        }
+    }
+}
+
+impl From<SinkFault> for Status {
+    ghost from_gives = { λ _ status. status ≡ WriteFailed };
+
+    fn from(_fault: SinkFault) -> Self {
+        Status::WriteFailed
     }
 }

@@ -18,7 +18,7 @@ mod writing;
 pub use faults::{Failed, ReadFault, SinkFault};
 pub use mem_sink::MemSink;
 pub use mem_source::MemSource;
-pub use reading::read_all;
+pub use reading::{read_all, read_front, zeros};
 pub use standard::{StdSink, StdSource};
 pub use traits::{Sink, Source};
 pub use writing::write_all;

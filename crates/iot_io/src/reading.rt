@@ -54,14 +54,14 @@ pub fn read_all<S: Source>(
 }
 
 /// So many zeros.
-fn zeros(alloc: Global, count: usize) -> Result<Vec<u8>, AllocError>
+pub fn zeros(alloc: Global, count: usize) -> Result<Vec<u8>, AllocError>
     ensures { IfOk result (λ bytes. vec_len bytes ≡ count) }
 {
     vec![in alloc; 0; count]
 }
 
 /// One read of at most so many bytes into the front of the chunk.
-fn read_front<S: Source>(source: &mut S, chunk: &mut [u8], most: usize) -> Result<usize, Failed>
+pub fn read_front<S: Source>(source: &mut S, chunk: &mut [u8], most: usize) -> Result<usize, Failed>
     requires { most ≤ length chunk.old }
     ensures bound { IfOk result (λ n. n ≤ most) }
     ensures took { MatchResult result

@@ -2,5 +2,5 @@ use Rattle.std.proofs.Common.{◌≡◌, ◌++◌}
 use Rattle.std.specs.List.{concat}
 use Rattle.iot_history.proofs.past.joined.Given as goal
 
-abbrev pub invariant-texts : goal.invariant-texts
-invariant-texts l = l.bytes.items ++ concat l.text-iterator ≡ concat l.texts
+abbrev pub invariant-bodies : goal.invariant-bodies
+invariant-bodies l = l.bytes.items ++ concat l.body-iterator ≡ concat l.bodies
