@@ -1,0 +1,3 @@
+mod BehindLaws
+pub mod PairsLaws
+pub mod StartLaws
