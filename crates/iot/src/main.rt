@@ -1,4 +1,4 @@
-//! The program: `run` on the words of the command line, standard input and output, and nine disks in memory.
+//! The program: `run` on the words of the command line, standard input and output, and ten disks in memory.
 #![tactic(auto)]
 
 use iot_app::{empty_disks, run};

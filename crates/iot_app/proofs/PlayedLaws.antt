@@ -2,7 +2,8 @@
 use Rattle.std.proofs.Common.{◌≡◌, ℕ, suc, ◌+◌, ◌<◌, ◌≤◌, List, [], ◌∷◌, ◌++◌, length, map, take, drop, slice_index_or}
 use Rattle.std.proofs.Common.{Option, Some, None, true}
 use Rattle.std.proofs.Common.{refl, sym, ap, subst, ◌∙◌, append_assoc, add-one, inl, inr, arith}
-use Rattle.std.proofs.lemmas.List.{append-nil, length-append, take_all, take-append-drop}
+use Rattle.std.proofs.lemmas.List.{append-nil, length-append, length-map, take_all, take-append-drop}
+use Rattle.std.proofs.Common.{◌||◌, Bool, false}
 use Rattle.std.proofs.Math.Seq.{drop-cons, take-suc}
 use Rattle.std.specs.Io.KnownBytes.{Appends}
 use Rattle.std.proofs.KnownBytes.{Appends-trans}
@@ -14,16 +15,25 @@ use Rattle.iot_machine.specs.Nodes.{Counts, opened}
 use Rattle.iot_machine.specs.Events.{event_part}
 use Rattle.iot_machine.specs.Transcript.{Opening, InTurn, Transcript}
 use Rattle.iot_world.specs.Allowed.{IsAllowed}
-use Rattle.iot_world.specs.Disks.{AreFresh, counts_on}
-use Rattle.iot_world.specs.Holding.{counts_in}
+use Rattle.iot_world.specs.Disks.{AreFresh, AreTwoUnarmed, CountOn, HasEnds, ServerBegins, counts_between, counts_on, other_of, own_of}
+use Rattle.iot_world.specs.Disks.{with_ends, SameOrRose, IsUnarmed}
+use Rattle.iot_world.specs.Allowed.{promotes}
 use Rattle.iot_world.specs.World.{StandsFor, IsWorldOf, IsWorldOfSome, EventSteps, DeclaredOn, client_count, script_names, disks_of}
 use Rattle.iot_world.specs.World.{Each, Opens, KeepsDisks, AreUnarmed, SameArms, GivesBack, joined_by}
 use Rattle.iot_world.specs.declared.world.World.{World}
 use Rattle.iot_world.proofs.AllowedLaws as worlds
 use Rattle.iot_world.proofs.DisksLaws.{last_here, last_then}
-use Rattle.iot_world.proofs.HoldingLaws.{used_by, used_first, eight_spare, nine_counts, disks_hold, disks_count, world_begins, still_begins}
+use Rattle.iot_world.proofs.BeginsLaws.{begins_or}
+use Rattle.iot_world.proofs.HoldingLaws.{used_first, eight_spare, eight_counts, disks_hold, disks_count, hold_count, placed_in}
+use Rattle.iot_world.proofs.HoldingLaws.{still_begins_at, world_begins}
+use Rattle.iot_world.proofs.PlacesLaws.{ends_as, ends_length, server_list}
+use Rattle.iot_world.specs.Disks.{CountsServer, place_of}
+use Rattle.iot_world.specs.Prelude.{Client, Disks, HasPlaces}
+use Rattle.iot_world.specs.World.{with_clients}
+use Rattle.iot_world.proofs.DeclaringLaws.{handed_are}
+use Rattle.iot_world.proofs.HoldingLaws.{clients_before}
 use Rattle.iot_world.proofs.ListLaws.{each_length}
-use Rattle.iot_app.specs.Keeping.{DisksKeep, CountsSince, DisksStay}
+use Rattle.iot_app.specs.Keeping.{DisksKeep, DisksKeepAt, DisksSince, CountsSince, DisksStay, ServerSince, promotes_next}
 use Rattle.iot_app.specs.Played.{Reported, DidFirst, WroteFirst, WroteCut, CutsOpening, Played}
 use Rattle.iot_app.specs.Running.{IsOpened, StaysIn}
 use Rattle.iot_app.specs.declared.status.Status.{Status}
@@ -79,6 +89,28 @@ transcript_none handed m text opens = record {
 
 -- ---- the disks meanwhile
 
+swapped : (a b c d : ℕ) → SameOrRose (a + b) (c + d) → SameOrRose (b + a) (d + c)
+swapped a b c d it =
+    let one : a + b ≡ b + a = omega arith in
+    let other : c + d ≡ d + c = omega arith in
+    subst (λ (n : ℕ). SameOrRose n (d + c)) one (subst (λ (n : ℕ). SameOrRose (a + b) n) other it)
+
+counts_eight : (m : Machine) → length m.clients + length m.spare ≡ 8 → length (counts_between m) ≡ 8
+counts_eight m eight =
+    length-append (map (λ (client : Client). client.node.counts) m.clients) m.spare
+    ∙ ap (λ (n : ℕ). n + length m.spare) (length-map m.clients (λ (client : Client). client.node.counts)) ∙ eight
+
+-- the server's two are the first and the last
+server_there : {D : Type 0} (medium : Medium D) (world : World D) → HasPlaces world.server
+    → (first : D) × (last : D) × (disks_of world ≡ with_ends first last (with_clients world.clients.items [] ++ world.spare.items))
+server_there medium world it = (
+  it.placed.first,
+  it.placed.last,
+  server_list medium world.server it.placed.promoted it.placed.first it.placed.last
+      (it.has ∙ ap (λ (disks : Disks _). Some disks) it.placed.is) (with_clients world.clients.items world.spare.items)
+      ∙ ap (λ (ds : List _). with_ends it.placed.first it.placed.last ds) (clients_before world.clients.items world.spare.items),
+)
+
 -- nothing was done to them
 pub keeps_same : {D : Type 0} (world : World D) → KeepsDisks world world
 keeps_same world = record { has = λ had. had; spare = last_here world.spare.items }
@@ -91,41 +123,88 @@ keeps_then old mid new first second = record {
 }
 
 module _ {D : Type 0} (medium : Medium D) where
-  each_since : (was now : List D) → AreUnarmed medium was now → Each (CountsSince medium) (map (counts_on medium) was) now
+  each_since : (was now : List D) → Each (IsUnarmed medium) was now → Each (CountsSince medium) (map (counts_on medium) was) now
   each_since [] [] all = tt
   each_since [] (d ∷ ds) all = absurd all
   each_since (d ∷ ds) [] all = absurd all
   each_since (d ∷ ds) (e ∷ es) all = (record { arms = all.0.arms; faults = all.0.faults }, each_since ds es all.1)
 
-  -- disks that were not armed since those before them counted this
-  pub all_since : (counts : List Counts) (was now : List D) → map (counts_on medium) was ≡ counts → AreUnarmed medium was now
-      → Each (CountsSince medium) counts now
-  all_since counts was now are unarmed = subst (λ (cs : List Counts). Each (CountsSince medium) cs now) are (each_since was now unarmed)
-
-  pub unarmed : (disks : List D) → AreUnarmed medium disks disks
+  pub unarmed : (disks : List D) → Each (IsUnarmed medium) disks disks
   unarmed [] = tt
   unarmed (d ∷ ds) = (record { arms = refl; faults = inl refl }, unarmed ds)
 
-  module _ (world : World D) (m : Machine) (stands : StandsFor medium world m) where
+  pub two_same : (first last : D) → AreTwoUnarmed medium first last first last
+  two_same first last = record { first_arms = refl; last_arms = refl; faults = inl refl }
+
+  -- the server's two have counted this, and were not armed since
+  module _ (m : Machine) (first last new_first new_last : D) (two : AreTwoUnarmed medium first last new_first new_last) where
+    server_by : (promoted : Bool)
+        → CountsServer (counts_on medium (own_of promoted first last)) (counts_on medium (other_of promoted first last)) m
+        → ServerSince medium (own_of promoted new_first new_last) (other_of promoted new_first new_last) m
+    server_by false counted = record {
+      arms = two.first_arms ∙ ap (λ (c : Counts). c.arms) (sym counted.both);
+      beside = two.last_arms ∙ sym counted.beside;
+      faults = subst (λ (n : ℕ). SameOrRose n (medium.faults new_first + medium.faults new_last))
+          (ap (λ (c : Counts). c.faults) (sym counted.both)) two.faults;
+    }
+    server_by true counted = record {
+      arms = two.last_arms ∙ ap (λ (c : Counts). c.arms) (sym counted.both);
+      beside = two.first_arms ∙ sym counted.beside;
+      faults = subst (λ (n : ℕ). SameOrRose n (medium.faults new_last + medium.faults new_first))
+          (ap (λ (c : Counts). c.faults) (sym counted.both))
+          (swapped (medium.faults first) (medium.faults last) (medium.faults new_first) (medium.faults new_last) two.faults);
+    }
+
+    pub since_then : (was now : List D) → CountOn medium m first last was → Each (IsUnarmed medium) was now
+        → DisksSince medium m new_first new_last now
+    since_then was now counted each = record {
+      server = server_by m.promoted counted.server;
+      between = subst (λ (cs : List Counts). Each (CountsSince medium) cs now) counted.between (each_since was now each);
+    }
+
+  module _ (is_image : (disk : D) → medium.may_leave disk (medium.reads disk)) (world : World D) (m : Machine)
+      (stands : StandsFor medium world m) where
+    abbrev others : List D
+    others = with_clients world.clients.items [] ++ world.spare.items
+
+    abbrev first : D
+    first = (placed_in medium world m stands).first
+
+    abbrev last : D
+    last = (placed_in medium world m stands).last
+
+    counted : CountOn medium m first last others
+    counted = disks_count medium world m stands
+
     -- memory ran out between two events
     pub stays_as : (later : List Event) → StaysIn medium world later m
     stays_as later = record {
-      counted =
-          all_since (counts_in m) (disks_of world) (disks_of world) (disks_count medium world m stands) (unarmed (disks_of world));
-      begins = world_begins medium world m stands;
-      nine = nine_counts medium world m stands;
+      ends = record { first = first; last = last; others = others; is = used_first medium world m stands };
+      counted = since_then m first last first last (two_same first last) others others counted (unarmed others);
+      begins =
+          begins_or medium m.server.durable m.promoted (promotes_next later) first last (world_begins medium is_image world m stands);
+      eight = eight_counts medium world m stands;
       spare = omega (arith, eight_spare medium world m stands);
     }
 
     -- or in the next one
-    pub still_stays : (new : World D) (event : Event) (later : List Event) → SameArms medium (joined_by event) world new
-        → StaysIn medium new (event ∷ later) m
-    still_stays new event later arms = record {
-      counted = all_since (counts_in m) (disks_of world) (disks_of new) (disks_count medium world m stands) arms.each;
-      begins = still_begins medium world new m (joined_by event) stands arms;
-      nine = nine_counts medium world m stands;
-      spare = omega (arith, eight_spare medium world m stands, arms.spare);
-    }
+    pub still_stays : (new : World D) (event : Event) (later : List Event)
+        → SameArms medium (joined_by event) (promotes event) world new → StaysIn medium new (event ∷ later) m
+    still_stays new event later arms =
+        let was : CountOn medium m arms.each.was.first arms.each.was.last arms.each.was.others =
+        ends_as (CountOn medium m) first last arms.each.was.first arms.each.was.last others arms.each.was.others
+        (sym (used_first medium world m stands) ∙ arms.each.was.is) counted in
+        record {
+          ends = arms.each.now;
+          counted =
+              since_then m arms.each.was.first arms.each.was.last arms.each.now.first arms.each.now.last arms.each.server
+              arms.each.was.others arms.each.now.others was arms.each.each;
+          begins =
+              still_begins_at medium is_image world new m (joined_by event) (promotes event) stands arms arms.each.now.first
+              arms.each.now.last arms.each.now.others arms.each.now.is;
+          eight = eight_counts medium world m stands;
+          spare = omega (arith, eight_spare medium world m stands, arms.spare);
+        }
 
 -- a new world has opened over its disks
 pub opened_on : {D : Type 0} (medium : Medium D) (disks : List D) (before after : List ℕ) (world : World D) → before ≡ []
@@ -140,42 +219,68 @@ opened_on medium disks before after world none opens = record {
   no_scripts = opens.no_scripts;
 }
 
--- what its disks hold and have counted later
-pub disks_keep : {D : Type 0} (medium : Medium D) (disks : List D) (before world : World D) (x y : List ℕ)
-    → Opens medium disks x y before → KeepsDisks before world → (m : Machine) → StandsFor medium world m
-    → DisksKeep medium disks (disks_of world) m
-disks_keep medium disks before world x y opens same m here = record {
-  holds = disks_hold medium disks before world m x y here opens same;
-  counted = disks_count medium world m here;
-}
+module _ {D : Type 0} (medium : Medium D) (disks : List D) (before world : World D) (x y : List ℕ)
+    (opens : Opens medium disks x y before) (same : KeepsDisks before world) where
+  -- those between the server's two
+  abbrev others_now : List D
+  others_now = with_clients world.clients.items [] ++ world.spare.items
 
--- and what is known of them if memory ran out
-pub disks_stay : {D : Type 0} (medium : Medium D) (disks : List D) (before world : World D) (x y : List ℕ)
-    → Opens medium disks x y before → KeepsDisks before world → (later : List Event) (m : Machine) → StaysIn medium world later m
-    → DisksStay medium disks (disks_of world) later m
-disks_stay {D = D} medium disks before world x y opens same later m stays =
-    let whole : length (used_by world) + length world.spare.items ≡ 9 =
-    sym (length-append (used_by world) world.spare.items) ∙ ap length (sym (used_first world))
-    ∙ sym (each_length (CountsSince medium) (counts_in m) (disks_of world) stays.counted) ∙ stays.nine in
-    record {
-      counted = stays.counted;
-      begins = stays.begins;
-      used = used_by world;
-      spare = world.spare.items;
-      is = used_first world;
-      front = opens.first ∷ same.spare.front;
-      was = opens.were ∙ ap (λ (ds : List D). opens.first ∷ ds) same.spare.split;
-      aligned =
-          omega (
-            arith,
-            whole,
-            opens.stands.stands.eight,
-            opens.no_clients,
-            ap length same.spare.split,
-            length-append same.spare.front world.spare.items,
-          );
-      few = omega (arith, whole, stays.spare);
-    }
+  -- what its disks hold and have counted later
+  pub disks_keep : ((disk : D) → medium.may_leave disk (medium.reads disk)) → (m : Machine) → StandsFor medium world m
+      → DisksKeep medium disks (disks_of world) m
+  disks_keep is_image m here = record {
+    holds = disks_hold medium is_image disks before world m x y here opens same;
+    counted = hold_count medium is_image disks before world m x y here opens same;
+  }
+
+  pub disks_keep_at : ((disk : D) → medium.may_leave disk (medium.reads disk)) → (place : ℕ)
+      → ((m : Machine) → StandsFor medium world m → place ≡ place_of m.promoted) → (m : Machine) → StandsFor medium world m
+      → DisksKeepAt medium disks (disks_of world) place m
+  disks_keep_at is_image place at m here = record { keeps = disks_keep is_image m here; at = at m here }
+
+  -- and what is known of them if memory ran out
+  pub disks_stay : (later : List Event) (m : Machine) → StaysIn medium world later m → DisksStay medium disks (disks_of world) later m
+  disks_stay later m stays =
+      let it = server_there medium world (same.has opens.has).server in
+      let is = it.2 in
+      let counted : DisksSince medium m it.0 it.1 others_now =
+      ends_as (DisksSince medium m) stays.ends.first stays.ends.last it.0 it.1 stays.ends.others others_now (sym stays.ends.is ∙ is)
+      stays.counted in
+      let between = each_length (CountsSince medium) (counts_between m) others_now counted.between in
+      record {
+        first = it.0;
+        used = with_clients world.clients.items [];
+        spare = world.spare.items;
+        last = it.1;
+        is = is;
+        counted = counted;
+        begins =
+            ends_as (λ (one other : D) (xs : List D). ServerBegins medium (m.promoted || promotes_next later) m.server.durable one other)
+            stays.ends.first stays.ends.last it.0 it.1 stays.ends.others others_now (sym stays.ends.is ∙ is) stays.begins;
+        first_handed = opens.first;
+        front = same.spare.front;
+        last_handed = opens.last;
+        was = opens.were ∙ ap (λ (ds : List D). with_ends opens.first opens.last ds) same.spare.split;
+        aligned =
+            omega (
+              arith,
+              between,
+              counts_eight m stays.eight,
+              length-append (with_clients world.clients.items []) world.spare.items,
+              opens.stands.stands.eight,
+              opens.no_clients,
+              ap length same.spare.split,
+              length-append same.spare.front world.spare.items,
+            );
+        few =
+            omega (
+              arith,
+              between,
+              counts_eight m stays.eight,
+              length-append (with_clients world.clients.items []) world.spare.items,
+              stays.spare,
+            );
+      }
 
 -- ---- events in turn
 
@@ -292,14 +397,15 @@ module _ {D : Type 0} (medium : Medium D) (handed : List Counts) (so : List ℕ 
   }
 
   -- memory ran out in the next one
-  module _ (done : ℕ) (event : Event) (new : World D) (plays : PlaysOn medium handed so events world done) (within : done < length events)
-      (here : event ≡ slice_index_or events done event) (arms : SameArms medium (joined_by event) world new) where
+  module _ (is_image : (disk : D) → medium.may_leave disk (medium.reads disk)) (done : ℕ) (event : Event) (new : World D)
+      (plays : PlaysOn medium handed so events world done) (within : done < length events)
+      (here : event ≡ slice_index_or events done event) (arms : SameArms medium (joined_by event) (promotes event) world new) where
     pub plays_failed : DidFirst handed (StaysIn medium new) events
     plays_failed =
         plays_did done plays new
         (subst (λ (es : List Event). StaysIn medium new es plays.machine)
         (sym (drop-cons events done event within ∙ ap (λ (e : Event). e ∷ drop (suc done) events) (sym here)))
-        (still_stays medium world plays.machine plays.stands.stands new event (drop (suc done) events) arms))
+        (still_stays medium is_image world plays.machine plays.stands.stands new event (drop (suc done) events) arms))
 
     -- what was written before it is a transcript of those before it
     pub plays_first : WroteFirst handed so (StaysIn medium new) events
@@ -307,8 +413,10 @@ module _ {D : Type 0} (medium : Medium D) (handed : List Counts) (so : List ℕ 
     plays_first = record { did = plays_failed; written = plays.said }
 
   -- memory ran out after them
-  pub plays_ended : (done : ℕ) → PlaysOn medium handed so events world done → DidFirst handed (StaysIn medium world) events
-  plays_ended done plays = plays_did done plays world (stays_as medium world plays.machine plays.stands.stands (drop done events))
+  pub plays_ended : ((disk : D) → medium.may_leave disk (medium.reads disk)) → (done : ℕ) → PlaysOn medium handed so events world done
+      → DidFirst handed (StaysIn medium world) events
+  plays_ended is_image done plays =
+      plays_did done plays world (stays_as medium is_image world plays.machine plays.stands.stands (drop done events))
 
   -- all are done
   pub whole_transcript : (done : ℕ) (plays : PlaysOn medium handed so events world done) → length events ≤ done
@@ -383,38 +491,49 @@ starts counts =
 -- no event was done, and the disks came back
 module _ {D : Type 0} (medium : Medium D) (disks back : List D) (events : List Event) (fresh : AreFresh medium disks)
     (gives : GivesBack medium disks back) where
-  counts_started : (ds : List D) → length ds ≡ 9 → counts_in (started (map (counts_on medium) ds)) ≡ map (counts_on medium) ds
-  counts_started [] nine = absurd (omega (arith, nine))
-  counts_started (d ∷ ds) nine = refl
+  -- what they counted at first
+  abbrev counts : List Counts
+  counts = map (counts_on medium) disks
 
-  since : Each (CountsSince medium) (counts_in (started (map (counts_on medium) disks))) back
-  since =
-      all_since medium (counts_in (started (map (counts_on medium) disks))) disks back (sym (counts_started disks fresh.nine))
-      (subst (AreUnarmed medium disks) (sym gives.back_are)
-      (subst (λ (ds : List D). AreUnarmed medium ds (gives.now ∷ gives.rest)) (sym gives.disks_are)
-      (gives.unarmed, unarmed medium gives.rest)))
+  started_counts : (was : HasEnds disks) → CountOn medium (started counts) was.first was.last was.others
+  started_counts was =
+      let server = handed_are medium disks was.first was.last was.others was.is fresh in
+      record {
+        server = record {
+          both = ap (λ (m : Machine). m.server.counts) server;
+          beside = ap (λ (m : Machine). m.beside) server;
+        };
+        between = ap (λ (m : Machine). m.spare) (sym server);
+      }
 
-  pub none_did : DidFirst (map (counts_on medium) disks) (DisksStay medium disks back) events
+  pub none_did : DidFirst counts (DisksStay medium disks back) events
   none_did = record {
     done = 0;
     text = [];
-    machine = started (map (counts_on medium) disks);
-    transcript = starts (map (counts_on medium) disks);
+    machine = started counts;
+    transcript = starts counts;
     stayed = record {
-      counted = since;
-      begins = gives.begins;
-      used = gives.now ∷ [];
-      spare = gives.rest;
-      is = gives.back_are;
-      front = gives.was ∷ [];
-      was = gives.disks_are;
+      first = gives.now.first;
+      used = [];
+      spare = gives.now.others;
+      last = gives.now.last;
+      is = gives.now.is;
+      counted =
+          since_then medium (started counts) gives.was.first gives.was.last gives.now.first gives.now.last gives.unarmed gives.was.others
+          gives.now.others (started_counts gives.was)
+          (subst (λ (ds : List D). Each (IsUnarmed medium) gives.was.others ds) (sym gives.same) (unarmed medium gives.was.others));
+      begins = record { of_last = gives.last; of_first = λ none. gives.first };
+      first_handed = gives.was.first;
+      front = [];
+      last_handed = gives.was.last;
+      was = gives.was.is ∙ ap (λ (ds : List D). with_ends gives.was.first gives.was.last ds) (sym gives.same);
       aligned = refl;
       few = omega arith;
     };
   }
 
   pub none_played : (written : Option (List ℕ))
-      → WroteFirst (map (counts_on medium) disks) (Appends written written) (DisksStay medium disks back) events
+      → WroteFirst counts (Appends written written) (DisksStay medium disks back) events
   unfolding none_did
   none_played written = record { did = none_did; written = appends_none written }
 

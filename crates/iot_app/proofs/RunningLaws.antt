@@ -2,19 +2,23 @@
 use Rattle.std.proofs.Common.{◌≡◌, ℕ, suc, ◌≤◌, List, [], ◌∷◌, ◌++◌, length, map, drop, slice_set, get_or}
 use Rattle.std.proofs.Common.{refl, sym, ap, subst, ◌∙◌, arith}
 use Rattle.std.specs.Prelude.{Result, Ok, Err, IfOk, IfErr, Option, None, Some}
-use Rattle.std.proofs.lemmas.List.{take_all}
+use Rattle.std.proofs.lemmas.List.{length-append, take_all}
 use Rattle.iot_count.specs.Counts.{Counted, Stayed, Rose}
 use Rattle.iot_disk.specs.Disk.{Medium, CountsFault, SameImages}
 use Rattle.iot_disk.specs.declared.disk.DiskFault.{DiskFault}
 use Rattle.iot_disk.specs.declared.disk.DiskFault.TheVariants as reading
 use Rattle.iot_event.specs.declared.event.Event.{Event}
-use Rattle.iot_machine.specs.Machine.{Machine, Commit, first_of}
+use Rattle.iot_machine.specs.Machine.{Machine, Commit}
 use Rattle.iot_machine.specs.Nodes.{Counts}
 use Rattle.iot_machine.specs.Transcript.{Transcript}
 use Rattle.iot_words.specs.declared.jobs.Run.{Run}
 use Rattle.iot_words.specs.declared.jobs.Run.TheVariants.{Transcript as Plays, Json, Generate, Save}
-use Rattle.iot_world.specs.Disks.{counts_on}
-use Rattle.iot_world.specs.Holding.{DisksHold, HoldsList, KeepsClient, counts_in}
+use Rattle.std.proofs.Common.{◌<◌, Bool, true, false, slice_get}
+use Rattle.std.proofs.Math.Seq.{get_or-append_seam, set-append_seam}
+use Rattle.iot_world.specs.Disks.{AreFresh, CountsServer, counts_on, other_of, own_of, place_of, with_ends}
+use Rattle.iot_world.specs.Holding.{DisksHold, HoldsServer, KeepsClient}
+use Rattle.iot_world.proofs.BeginsLaws.{begins_or}
+use Rattle.iot_world.proofs.PlacesLaws.{ends_length}
 use Rattle.iot_world.specs.World.{StandsFor, IsWorldOfSome}
 use Rattle.iot_world.specs.declared.world.World.{World}
 use Rattle.iot_world.proofs.HoldingLaws.{held_begins}
@@ -23,17 +27,17 @@ use Rattle.iot_app.specs.Counting.{HasCounted}
 use Rattle.iot_app.specs.Doing.{Did}
 use Rattle.iot_app.specs.Faults.{ended_by_read}
 use Rattle.iot_app.specs.Job.{TextEnds}
-use Rattle.iot_app.specs.Keeping.{DisksKeep, DisksKeepUnread, DisksStay}
+use Rattle.iot_app.specs.Keeping.{DisksKeep, DisksKeepAt, DisksKeepUnread, DisksStay, promotes_next}
 use Rattle.iot_app.specs.Outputs.{output_of}
 use Rattle.iot_app.specs.Played.{RanAll, Reported, DidFirst, WroteFront, Played}
 use Rattle.iot_app.specs.Running.{told_of, tells, RanIn, StaysIn, IsTold}
-use Rattle.iot_app.specs.Saving.{first_reads}
+use Rattle.iot_app.specs.Saving.{reads_if, server_reads}
 use Rattle.iot_app.specs.Summary.{tally_of}
 use Rattle.iot_app.specs.declared.tally.Tally.{Tally}
 use Rattle.iot_app.specs.declared.status.Status.{Status}
 use Rattle.iot_app.specs.declared.status.Status.TheVariants as statuses
 use Rattle.iot_app.proofs.EndingsLaws.{by_text}
-use Rattle.iot_app.proofs.PlayedLaws.{PlaysOn, whole_transcript, stays_as, all_since, unarmed, reported_as}
+use Rattle.iot_app.proofs.PlayedLaws.{PlaysOn, whole_transcript, since_then, stays_as, two_same, unarmed, reported_as}
 
 -- ---- runs in other words
 
@@ -115,16 +119,16 @@ module _ {D : Type 0} (medium : Medium D) (handed : List Counts) (events : List 
     }
 
     -- memory ran out when that was to be said
-    pub ran_untold : DidFirst handed (StaysIn medium w) events
-    ran_untold =
+    pub ran_untold : ((disk : D) → medium.may_leave disk (medium.reads disk)) → DidFirst handed (StaysIn medium w) events
+    ran_untold is_image =
         all_did handed (StandsFor medium w) events
         (record { text = ran.text; machine = ran.machine; transcript = ran.transcript; kept = ran.stands.stands }) (StaysIn medium w)
-        (λ later m stands. stays_as medium w m stands later)
+        (λ later m stands. stays_as medium is_image w m stands later)
 
 -- ---- writing it
 
 module _ (handed : List Counts) (wrote : List ℕ → Type 0) (holds : Machine → Type 0) (stays : List Event → Machine → Type 0)
-    (unread : Machine → Type 0) (disk : List ℕ) (events : List Event) where
+    (unread : Machine → Type 0) (disk : Machine → List ℕ) (events : List Event) where
   abbrev Does : Run → Status → Type 0
   Does job status = Did handed wrote holds stays unread disk job status events
 
@@ -160,12 +164,18 @@ module _ (handed : List Counts) (wrote : List ℕ → Type 0) (holds : Machine �
   nothing_did Save is did written = absurd is
 
   -- what the server's disk reads as was written, or a front of it
-  pub saved_did : (bytes : List ℕ) (status : Status) (f e : Counted) → bytes ≡ disk → RanAll handed holds events
-      → TextEnds statuses.Done bytes status wrote f e → Does Save status
-  saved_did bytes status f e is ran ends =
-      by_text statuses.Done bytes status wrote f e (Does Save) ends
-      (λ written. record { ran = ran; written = subst wrote is written })
-      (λ written. record { ran = ran; written = subst (WroteFront wrote) is written })
+  module _ (one : Machine → Type 0) (ran : RanAll handed one events) (means : (m : Machine) → one m → holds m) where
+    saved_by : (so : List ℕ → Type 0) (bytes : List ℕ) → bytes ≡ disk ran.machine → so bytes
+        → Reported handed so holds (output_of Save disk) events
+    saved_by so bytes is written = record {
+      ran = record { text = ran.text; machine = ran.machine; transcript = ran.transcript; kept = means ran.machine ran.kept };
+      written = subst so is written;
+    }
+
+    pub saved_did : (bytes : List ℕ) (status : Status) (f e : Counted) → bytes ≡ disk ran.machine
+        → TextEnds statuses.Done bytes status wrote f e → Does Save status
+    saved_did bytes status f e is ends =
+        by_text statuses.Done bytes status wrote f e (Does Save) ends (saved_by wrote bytes is) (saved_by (WroteFront wrote) bytes is)
 
   -- a transcript
   pub played_did : (status : Status) → Played handed status wrote holds stays events → Does Plays status
@@ -177,99 +187,218 @@ module _ (handed : List Counts) (wrote : List ℕ → Type 0) (holds : Machine �
   played_did statuses.NoMemory played = played
   played_did statuses.SaveFailed played = absurd played
 
--- ---- reading the first disk
+-- ---- reading the server's disk
 
--- after a run the first disk is another one, with the same images and arms
-module _ {D : Type 0} (medium : Medium D) (handed old : List D) (was now : D) (here : was ≡ get_or old 0 was)
-    (images : SameImages (medium.may_leave was) (medium.may_leave now)) (arms : (counts_on medium now).arms ≡ (counts_on medium was).arms)
-    (m : Machine) (keeps : DisksKeep medium handed old m) where
+get_last : {A : Type 0} (xs : List A) (x : A) → slice_get (xs ++ x ∷ []) (length xs) ≡ Some x
+get_last [] x = refl
+get_last (y ∷ xs) x = get_last xs x
+
+-- the first and the last, if the server's own is this one
+abbrev first_after : {A : Type 0} → (promoted : Bool) → (now first : A) → A
+first_after false now first = now
+first_after true now first = first
+
+abbrev last_after : {A : Type 0} → (promoted : Bool) → (now last : A) → A
+last_after false now last = last
+last_after true now last = now
+
+own_after : {A : Type 0} (promoted : Bool) (now first last : A)
+    → own_of promoted (first_after promoted now first) (last_after promoted now last) ≡ now
+own_after false now first last = refl
+own_after true now first last = refl
+
+other_after : {A : Type 0} (promoted : Bool) (now first last : A)
+    → other_of promoted (first_after promoted now first) (last_after promoted now last) ≡ other_of promoted first last
+other_after false now first last = refl
+other_after true now first last = refl
+
+-- ten of which it stands at its place
+module _ {A : Type 0} (first last : A) (others : List A) (eight : length others ≡ 8) where
+  nine : 9 ≡ suc (length others)
+  nine = omega (arith, eight)
+
+  set_own : (promoted : Bool) (now : A) → slice_set (with_ends first last others) (place_of promoted) now
+      ≡ with_ends (first_after promoted now first) (last_after promoted now last) others
+  set_own false now = refl
+  set_own true now =
+      ap (λ (n : ℕ). slice_set (with_ends first last others) n now) nine
+      ∙ ap (λ (xs : List A). first ∷ xs) (set-append_seam others last [] now)
+
+  own_there : (promoted : Bool) (was : A) → get_or (with_ends first last others) (place_of promoted) was ≡ own_of promoted first last
+  own_there false was = refl
+  own_there true was =
+      ap (λ (n : ℕ). get_or (with_ends first last others) n was) nine ∙ get_or-append_seam others last [] was
+
+  got_own : (promoted : Bool) → slice_get (with_ends first last others) (place_of promoted) ≡ Some (own_of promoted first last)
+  got_own false = refl
+  got_own true = ap (λ (n : ℕ). slice_get (with_ends first last others) n) nine ∙ get_last others last
+
+place_within : (promoted : Bool) → place_of promoted < 10
+place_within false = omega arith
+place_within true = omega arith
+
+module _ {D : Type 0} (medium : Medium D) (handed old : List D) (fresh : AreFresh medium handed) (m : Machine)
+    (keeps : DisksKeep medium handed old m) where
   abbrev held : DisksHold medium handed old m
   held = keeps.holds
 
-  changed : slice_set old 0 now ≡ now ∷ held.clients ++ held.spare
-  changed = ap (λ (ds : List D). slice_set ds 0 now) held.is
+  eight_held : length (held.clients ++ held.spare) ≡ 8
+  eight_held =
+      omega (
+        arith,
+        ap length held.was,
+        ends_length held.first_handed held.last_handed (held.front ++ held.spare),
+        length-append held.front held.spare,
+        length-append held.clients held.spare,
+        held.aligned,
+        fresh.ten,
+      )
 
-  first : was ≡ held.server
-  first = here ∙ ap (λ (ds : List D). get_or ds 0 was) held.is
+  -- the place is one of theirs
+  pub place_inside : (place : ℕ) → place ≡ place_of m.promoted → place < length old
+  place_inside place at =
+      let ten : length old ≡ 10 =
+      omega (arith, ap length held.is, ends_length held.first held.last (held.clients ++ held.spare), eight_held) in
+      subst (λ (n : ℕ). n < length old) (sym at) (subst (λ (n : ℕ). place_of m.promoted < n) (sym ten) (place_within m.promoted))
 
-  list_changed : (commits : List Commit) (doubt : Option (List Commit)) → HoldsList (medium.may_leave was) commits doubt
-      → HoldsList (medium.may_leave now) commits doubt
-  list_changed commits None list = λ image leaves. list image (images.was image leaves)
-  list_changed commits (Some after) list = λ image leaves. list image (images.was image leaves)
+-- after a run the disk at the place of the server's own is another one, with the same images and arms
+module _ {D : Type 0} (medium : Medium D) (handed old : List D) (fresh : AreFresh medium handed) (place : ℕ) (was now : D)
+    (here : was ≡ get_or old place was) (images : SameImages (medium.may_leave was) (medium.may_leave now))
+    (arms : (counts_on medium now).arms ≡ (counts_on medium was).arms) (m : Machine) (at : place ≡ place_of m.promoted)
+    (keeps : DisksKeep medium handed old m) where
+  abbrev before : DisksHold medium handed old m
+  before = keeps.holds
 
-  holds_changed : DisksHold medium handed (slice_set old 0 now) m
+  abbrev rest : List D
+  rest = before.clients ++ before.spare
+
+  abbrev first : D
+  first = first_after m.promoted now before.first
+
+  abbrev last : D
+  last = last_after m.promoted now before.last
+
+  changed : slice_set old place now ≡ with_ends first last rest
+  changed =
+      (λ i. slice_set (before.is i) (at i) now)
+      ∙ set_own before.first before.last rest (eight_held medium handed old fresh m keeps) m.promoted now
+
+  was_own : was ≡ own_of m.promoted before.first before.last
+  was_own =
+      here ∙ (λ i. get_or (before.is i) (at i) was)
+      ∙ own_there before.first before.last rest (eight_held medium handed old fresh m keeps) m.promoted was
+
+  list_now : (promoted : Bool) (one other : D) (commits : List Commit) (doubt : Option (List Commit))
+      → was ≡ own_of promoted one other → HoldsServer promoted (medium.may_leave one) (medium.may_leave other) commits doubt
+      → HoldsServer promoted (medium.may_leave (first_after promoted now one)) (medium.may_leave (last_after promoted now other)) commits
+      doubt
+  list_now false one other commits None own holds =
+      (λ image leaves. holds.0 image (subst (λ (d : D). medium.may_leave d image) own (images.was image leaves)), holds.1)
+  list_now false one other commits (Some after) own holds =
+      λ image second leaves there.
+      holds image second (subst (λ (d : D). medium.may_leave d image) own (images.was image leaves)) there
+  list_now true one other commits None own holds =
+      λ image leaves. holds image (subst (λ (d : D). medium.may_leave d image) own (images.was image leaves))
+  list_now true one other commits (Some after) own holds =
+      λ image leaves. holds image (subst (λ (d : D). medium.may_leave d image) own (images.was image leaves))
+
+  abbrev holds_changed : DisksHold medium handed (slice_set old place now) m
   holds_changed = record {
-    server = now;
-    clients = held.clients;
-    spare = held.spare;
+    first = first;
+    clients = before.clients;
+    spare = before.spare;
+    last = last;
     is = changed;
-    list =
-        list_changed m.server.durable m.server.doubt
-        (subst (λ (d : D). HoldsList (medium.may_leave d) m.server.durable m.server.doubt) (sym first) held.list);
-    longer = held.longer;
-    each = held.each;
-    first = held.first;
-    front = held.front;
-    was = held.was;
-    aligned = held.aligned;
+    list = list_now m.promoted before.first before.last m.server.durable m.server.doubt was_own before.list;
+    longer = before.longer;
+    each = before.each;
+    first_handed = before.first_handed;
+    front = before.front;
+    last_handed = before.last_handed;
+    was = before.was;
+    aligned = before.aligned;
   }
 
-  -- what the first one and the others have counted
-  first_counted : counts_on medium was ≡ m.server.counts
-  first_counted = ap (counts_on medium) first ∙ ap first_of (sym (ap (map (counts_on medium)) held.is) ∙ keeps.counted)
+  other_is : counts_on medium (other_of m.promoted before.first before.last) ≡ counts_on medium (other_of m.promoted first last)
+  other_is = ap (counts_on medium) (sym (other_after m.promoted now before.first before.last))
 
-  rest_counted : map (counts_on medium) (held.clients ++ held.spare) ≡ drop 1 (counts_in m)
-  rest_counted = ap (drop 1) (sym (ap (map (counts_on medium)) held.is) ∙ keeps.counted)
+  own_is : own_of m.promoted first last ≡ now
+  own_is = own_after m.promoted now before.first before.last
+
+  counts_as : (own : Counts) → counts_on medium (own_of m.promoted before.first before.last) ≡ own
+      → CountsServer own (counts_on medium (other_of m.promoted first last)) m
+  counts_as own is =
+      subst (λ (c : Counts × Counts). CountsServer c.0 c.1 m) (λ i. (is i, other_is i)) keeps.counted.server
 
   -- no read of it failed
-  pub keeps_read : Stayed (counts_on medium was).faults (counts_on medium now).faults → DisksKeep medium handed (slice_set old 0 now) m
+  pub keeps_read : Stayed (counts_on medium was).faults (counts_on medium now).faults
+      → DisksKeep medium handed (slice_set old place now) m
   keeps_read stayed =
       let same : counts_on medium now ≡ counts_on medium was = (λ i. record { faults = stayed i; arms = arms i }) in
       record {
         holds = holds_changed;
-        counted =
-            ap (map (counts_on medium)) changed
-            ∙ (λ i. (same ∙ first_counted) i ∷ rest_counted i);
+        counted = record {
+          server = counts_as (counts_on medium (own_of m.promoted first last))
+              (ap (counts_on medium) (sym was_own) ∙ sym same ∙ ap (counts_on medium) (sym own_is));
+          between = keeps.counted.between;
+        };
       }
 
   -- or one did
   pub keeps_unread : Rose (counts_on medium was).faults (counts_on medium now).faults
-      → DisksKeepUnread medium handed (slice_set old 0 now) m
+      → DisksKeepUnread medium handed (slice_set old place now) m
   keeps_unread rose = record {
     holds = holds_changed;
-    first = now;
-    rest = held.clients ++ held.spare;
-    is = changed;
-    rose = subst (λ (c : Counts). Rose c.faults (counts_on medium now).faults) first_counted rose;
-    arms = arms ∙ ap (λ (c : Counts). c.arms) first_counted;
-    counted = rest_counted;
+    before = medium.faults was;
+    rose = subst (λ (d : D). Rose (medium.faults was) (medium.faults d)) (sym own_is) rose;
+    server = counts_as (record { faults = medium.faults was; arms = medium.arms (own_of m.promoted first last) })
+        (ap (counts_on medium) (sym was_own)
+        ∙ (λ i. record { faults = medium.faults was; arms = (sym arms ∙ ap medium.arms (sym own_is)) i }));
+    between = keeps.counted.between;
   }
 
-  pub reads_changed : medium.reads now ≡ first_reads medium (slice_set old 0 now)
-  reads_changed = sym (ap (first_reads medium) changed)
+  pub reads_changed : medium.reads now ≡ server_reads medium (slice_set old place now) m
+  reads_changed =
+      sym (
+      ap (λ (ds : List D). server_reads medium ds m) changed
+      ∙ ap (reads_if medium) (got_own first last rest (eight_held medium handed old fresh m keeps) m.promoted)
+      ∙ ap medium.reads own_is
+      )
 
 -- memory ran out later
-pub keeps_stay : {D : Type 0} (medium : Medium D) (handed back : List D) (later : List Event) (m : Machine)
-    → DisksKeep medium handed back m → DisksStay medium handed back later m
-keeps_stay medium handed back later m keeps = record {
-  counted = all_since medium (counts_in m) back back keeps.counted (unarmed medium back);
-  begins = held_begins medium handed back m keeps.holds;
-  used = keeps.holds.server ∷ keeps.holds.clients;
-  spare = keeps.holds.spare;
-  is = keeps.holds.is;
-  front = keeps.holds.first ∷ keeps.holds.front;
-  was = keeps.holds.was;
-  aligned = ap suc keeps.holds.aligned;
-  few = omega (arith, each_length (KeepsClient medium) keeps.holds.clients m.clients keeps.holds.each);
-}
+pub keeps_stay : {D : Type 0} (medium : Medium D) (is_image : (disk : D) → medium.may_leave disk (medium.reads disk)) (handed back : List D)
+    (later : List Event) (m : Machine) → DisksKeep medium handed back m → DisksStay medium handed back later m
+keeps_stay medium is_image handed back later m keeps =
+    let holds = keeps.holds in
+    let others = holds.clients ++ holds.spare in
+    record {
+      first = holds.first;
+      used = holds.clients;
+      spare = holds.spare;
+      last = holds.last;
+      is = holds.is;
+      counted =
+          since_then medium m holds.first holds.last holds.first holds.last (two_same medium holds.first holds.last) others others
+          keeps.counted (unarmed medium others);
+      begins =
+          begins_or medium m.server.durable m.promoted (promotes_next later) holds.first holds.last
+          (held_begins medium is_image handed back m holds);
+      first_handed = holds.first_handed;
+      front = holds.front;
+      last_handed = holds.last_handed;
+      was = holds.was;
+      aligned = holds.aligned;
+      few = omega (arith, each_length (KeepsClient medium) holds.clients m.clients holds.each);
+    }
 
 -- and then the disk could not be read
-module _ {D : Type 0} (medium : Medium D) (handed old : List D) (was now : D) (here : was ≡ get_or old 0 was)
+module _ {D : Type 0} (medium : Medium D) (is_image : (disk : D) → medium.may_leave disk (medium.reads disk)) (handed old : List D)
+    (fresh : AreFresh medium handed) (place : ℕ) (was now : D) (here : was ≡ get_or old place was)
     (images : SameImages (medium.may_leave was) (medium.may_leave now)) (arms : (counts_on medium now).arms ≡ (counts_on medium was).arms)
-    (wrote : List ℕ → Type 0) (disk : List ℕ) (events : List Event)
-    (ran : RanAll (map (counts_on medium) handed) (DisksKeep medium handed old) events) (written : wrote []) where
+    (wrote : List ℕ → Type 0) (disk : Machine → List ℕ) (events : List Event)
+    (ran : RanAll (map (counts_on medium) handed) (DisksKeepAt medium handed old place) events) (written : wrote []) where
   abbrev now_in : List D
-  now_in = slice_set old 0 now
+  now_in = slice_set old place now
 
   pub unsaved_did : (T : Type 0) (fault : DiskFault)
       → CountsFault {T = T} (Err fault) (counts_on medium was).faults (counts_on medium now).faults
@@ -277,14 +406,15 @@ module _ {D : Type 0} (medium : Medium D) (handed old : List D) (was now : D) (h
       (DisksKeepUnread medium handed now_in) disk Save (ended_by_read fault) events
   unsaved_did T reading.NoMemory stayed = record {
     did =
-        all_did (map (counts_on medium) handed) (DisksKeep medium handed old) events ran (DisksStay medium handed now_in)
-        (λ later m keeps.
-        keeps_stay medium handed now_in later m (keeps_read medium handed old was now here images arms m keeps stayed));
+        all_did (map (counts_on medium) handed) (DisksKeepAt medium handed old place) events ran (DisksStay medium handed now_in)
+        (λ later m it.
+        keeps_stay medium is_image handed now_in later m
+        (keeps_read medium handed old fresh place was now here images arms m it.at it.keeps stayed));
     written = written;
   }
   unsaved_did T reading.Failed rose = record {
     ran =
-        ran_as (map (counts_on medium) handed) (DisksKeep medium handed old) events ran (DisksKeepUnread medium handed now_in)
-        (λ m keeps. keeps_unread medium handed old was now here images arms m keeps rose);
+        ran_as (map (counts_on medium) handed) (DisksKeepAt medium handed old place) events ran (DisksKeepUnread medium handed now_in)
+        (λ m it. keeps_unread medium handed old fresh place was now here images arms m it.at it.keeps rose);
     written = written;
   }

@@ -6,7 +6,7 @@ use Rattle.iot_disk.specs.Failures.{arms_of}
 use Rattle.iot_disk.specs.Memory.{Memory, in_memory}
 use Rattle.iot_world.specs.Disks.{AreFresh}
 
--- nine empty disks in memory
+-- ten empty disks in memory
 abbrev pub AreEmptyDisks : List Memory → Type 0
 AreEmptyDisks disks = AreFresh in_memory disks
 

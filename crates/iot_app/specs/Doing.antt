@@ -1,6 +1,6 @@
 -- What was done of the events of a job, and what was written, by the status that the job ends with. The first parameters are as for a
--- transcript; `unread m` says that the disks hold what this machine keeps, but that a read of the first has failed since; and `disk` is
--- what that one reads as at the end.
+-- transcript; `unread m` says that the disks hold what this machine keeps, but that a read of the server's own has failed since; and
+-- `disk m` is what that one reads as at the end.
 use Rattle.std.specs.Prelude.{◌⊎◌, ℕ, List, []}
 use Rattle.iot_event.specs.declared.event.Event.{Event}
 use Rattle.iot_machine.specs.Machine.{Machine}
@@ -13,7 +13,7 @@ use Rattle.iot_app.specs.declared.status.Status.{Status}
 use Rattle.iot_app.specs.declared.status.Status.TheVariants.{Done, WriteFailed, NoMemory, SaveFailed}
 
 module _ (handed : List Counts) (wrote : List ℕ → Type 0) (holds : Machine → Type 0) (stays : List Event → Machine → Type 0)
-    (unread : Machine → Type 0) (disk : List ℕ) where
+    (unread : Machine → Type 0) (disk : Machine → List ℕ) where
   -- a write failed: of a transcript in the middle of a text, after which no event was done; else after all events
   abbrev pub CutsOutput : Run → List Event → Type 0
   CutsOutput Transcript = λ events. CutsOpening handed wrote holds ⊎ WroteCut handed wrote holds events

@@ -22,7 +22,7 @@ use Rattle.iot_app.specs.declared.status.Status.TheVariants.{Done, Refused, Usag
 
 -- What can be seen of a run but for its words: which bytes were taken from the source, and whether nothing is left there; which bytes
 -- were written to the sink; what the disks counted that were handed in; whether they hold and have counted now what a machine has, or do
--- but for a failed read of the first, or are as they may be if memory ran out with these events left; what the first of them reads as;
+-- but for a failed read of its server's own, or are as they may be if memory ran out with these events left; what that one reads as;
 -- whether they are as they were.
 pub record Effects : Type 1 where
   pub took : List ℕ → Type 0
@@ -32,7 +32,7 @@ pub record Effects : Type 1 where
   pub holds : Machine → Type 0
   pub unread : Machine → Type 0
   pub stays : List Event → Machine → Type 0
-  pub disk : List ℕ
+  pub disk : Machine → List ℕ
   pub untouched : Type 0
 
 -- nothing was read and no event was done, and this was written

@@ -11,12 +11,12 @@ use Rattle.iot_words.specs.declared.jobs.Run.TheVariants.{Transcript, Json, Gene
 use Rattle.iot_app.specs.Input.{TookInput}
 use Rattle.iot_app.specs.Summary.{summary}
 
--- the whole output of a job, by the transcript of its run, the machine at its end, and the bytes that the server's disk reads as
-abbrev pub output_of : Run → (disk : List ℕ) → (transcript : List ℕ) → Machine → List ℕ
+-- the whole output of a job, by the transcript of its run, the machine at its end, and the bytes that its server's disk reads as
+abbrev pub output_of : Run → (disk : Machine → List ℕ) → (transcript : List ℕ) → Machine → List ℕ
 output_of Transcript disk transcript m = transcript
 output_of Json disk transcript m = line (json_text m)
 output_of (Generate n) disk transcript m = summary transcript m
-output_of Save disk transcript m = disk
+output_of Save disk transcript m = disk m
 
 -- the job does not read the source
 abbrev pub is_generated : Run → Bool

@@ -1,5 +1,5 @@
 -- What is told of a run whose events were done while nothing was written.
-use Rattle.std.specs.Prelude.{◌≡◌, ◌≤◌, ℕ, ◌+◌, List, [], length}
+use Rattle.std.specs.Prelude.{◌≡◌, ◌≤◌, ℕ, ◌+◌, ◌||◌, List, [], length}
 use Rattle.iot_event.specs.declared.event.Event.{Event}
 use Rattle.iot_machine.specs.Json.{json_text, row_count}
 use Rattle.iot_disk.specs.Disk.{Medium}
@@ -9,11 +9,10 @@ use Rattle.iot_machine.specs.Texts.{line}
 use Rattle.iot_machine.specs.Transcript.{Opening, Transcript}
 use Rattle.iot_words.specs.declared.jobs.Run.{Run}
 use Rattle.iot_words.specs.declared.jobs.Run.TheVariants.{Transcript as plays, Json, Generate, Save}
-use Rattle.iot_world.specs.Disks.{FirstBegins}
-use Rattle.iot_world.specs.Holding.{counts_in}
-use Rattle.iot_world.specs.World.{Each, IsWorldOf, client_count, script_names, disks_of}
+use Rattle.iot_world.specs.Disks.{HasEnds, ServerBegins}
+use Rattle.iot_world.specs.World.{IsWorldOf, client_count, script_names, disks_of}
 use Rattle.iot_world.specs.declared.world.World.{World}
-use Rattle.iot_app.specs.Keeping.{CountsSince, joined_next}
+use Rattle.iot_app.specs.Keeping.{DisksSince, joined_next, promotes_next}
 use Rattle.iot_app.specs.Summary.{tally_of, summary_text}
 use Rattle.iot_app.specs.declared.tally.Tally.{Tally}
 
@@ -57,10 +56,11 @@ pub record IsOpenedSome {D : Type 0} (medium : Medium D) (text : List ℕ) (worl
   pub is : IsOpened medium handed text world
 
 -- Memory ran out in this world, and these events were not done, or the first of them in part: no disk was armed but by those that were
--- done, each has failed as often as the machine's, or more often, the server's begins with the machine's list, and those are spare that no
+-- done, each has failed as often as the machine's, or more often, the server's begin with the machine's list, and those are spare that no
 -- client has.
 pub record StaysIn {D : Type 0} (medium : Medium D) (world : World D) (later : List Event) (m : Machine) : Type 0 where
-  pub counted : Each (CountsSince medium) (counts_in m) (disks_of world)
-  pub begins : FirstBegins medium m.server.durable (disks_of world)
-  pub nine : length (counts_in m) ≡ 9
+  pub ends : HasEnds (disks_of world)
+  pub counted : DisksSince medium m ends.first ends.last ends.others
+  pub begins : ServerBegins medium (m.promoted || promotes_next later) m.server.durable ends.first ends.last
+  pub eight : length m.clients + length m.spare ≡ 8
   pub spare : 8 ≤ length world.spare.items + length m.clients + joined_next later

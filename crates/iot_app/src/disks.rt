@@ -7,9 +7,9 @@ use iot_text::NoMemory;
 use std::alloc::Global;
 
 /// How many disks a run takes.
-const COUNT: usize = 9;
+const COUNT: usize = 10;
 
-/// Nine empty disks in memory, as a run takes them: never armed, and without a fault.
+/// Ten empty disks in memory, as a run takes them: never armed, and without a fault.
 pub fn empty_disks(alloc: Global) -> Result<Vec<MemDisk>, NoMemory>
     ensures empty { IfOk result (λ disks. AreEmptyDisks disks.items) }
     ensures arms { IfOk result (λ disks. AreUnarmed disks.items) }

@@ -6,7 +6,7 @@ ghost use Rattle.iot_world.specs.Disks.{AreFresh, counts_on};
 ghost use Rattle.iot_app.specs.Keeping.{DisksKeep, DisksKeepUnread, DisksStay};
 ghost use Rattle.iot_app.specs.Doing.{Did};
 ghost use Rattle.iot_app.specs.Running.{IsTold};
-ghost use Rattle.iot_app.specs.Saving.{first_reads};
+ghost use Rattle.iot_app.specs.Saving.{server_reads};
 ghost use Rattle.iot_app.specs.Status.{SinkCounts};
 
 use crate::play::play;
@@ -35,7 +35,7 @@ pub(crate) fn do_events<K: Sink, D: Disk>(
         (DisksKeep D.medium disks.items result.1.items)
         (DisksStay D.medium disks.items result.1.items)
         (DisksKeepUnread D.medium disks.items result.1.items)
-        (first_reads D.medium result.1.items)
+        (server_reads D.medium result.1.items)
         job result.0 events.now }
     ensures sink_faults { SinkCounts result.0
         (record { before = K.faults sink.old; after = K.faults sink.new })
@@ -65,13 +65,13 @@ fn report<K: Sink, D: Disk>(
         (DisksKeep D.medium disks.items result.1.items)
         (DisksStay D.medium disks.items result.1.items)
         (DisksKeepUnread D.medium disks.items result.1.items)
-        (first_reads D.medium result.1.items)
+        (server_reads D.medium result.1.items)
         job result.0 events.now }
     ensures sink_faults { SinkCounts result.0
         (record { before = K.faults sink.old; after = K.faults sink.new })
         (record { before = K.empties sink.old; after = K.empties sink.new }) }
 {
-    let (told, disks) = run_events(alloc, job, events, disks);
+    let (told, _place, disks) = run_events(alloc, job, events, disks);
     match told {
         Ok(text) => (write_text(sink, text.as_bytes(), Status::Done), disks),
         Err(_no_memory) => (Status::NoMemory, disks),

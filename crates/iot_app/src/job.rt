@@ -5,7 +5,7 @@ ghost use Rattle.iot_io.specs.ReadAll.{Took};
 ghost use Rattle.iot_world.specs.Disks.{AreFresh, counts_on};
 ghost use Rattle.iot_app.specs.Keeping.{DisksKeep, DisksKeepUnread, DisksStay};
 ghost use Rattle.iot_app.specs.Endings.{Ends, JobEnds, RunEnds};
-ghost use Rattle.iot_app.specs.Saving.{first_reads};
+ghost use Rattle.iot_app.specs.Saving.{server_reads};
 ghost use Rattle.iot_app.specs.Status.{HasStatus, SourceCounts, SinkCounts};
 
 use crate::audit::audit_source;
@@ -35,6 +35,7 @@ pub struct Outcome<D> {
 ///   `write_all`.
 /// - `--json`: does the same events, and writes only what all nodes hold then, as JSON, and a newline.
 /// - `--save`: does the same events, and writes only the bytes that the server's disk reads as then, which it reads by one device call.
+///   That is the first disk, or the last if the backup was promoted.
 /// - `--gen N`, with a number of at most 1,000,000: reads nothing, does the events of the text that is generated from it, and writes
 ///   four lines: how many commits, conflicts and waiting transactions the events said, and how many rows the server's tree has.
 /// - `--image`: reads the source to its end as an image of a server's disk, as `--save` writes one, and writes the tree and the commits of
@@ -46,8 +47,8 @@ pub struct Outcome<D> {
 ///   image. Writes how many commits the image has, if the events make it: they declare each commit's script; these scripts, run alone in
 ///   the order of the commits, make the tree of the image; and they print then what its records say. No disk is touched.
 ///
-/// Of the nine disks, which are empty and come back, the first is the server's, and the client at place i, counted from 0 in order
-/// of declaration, has disk i + 1.
+/// Of the ten disks, which are empty and come back, the first is the server's and the last its backup's, and the client at place i, counted
+/// from 0 in order of declaration, has disk i + 1. Since the backup was promoted the server's disk is the last, and the first is given up.
 ///
 /// # Statuses
 ///
@@ -66,23 +67,32 @@ pub struct Outcome<D> {
 ///   written.
 /// - 6: the server's disk could not be read to be saved. All events were done, and nothing was written.
 ///
-/// A disk that fails ends no run: its node stops, which is a line of the transcript, and is down until it is restarted.
+/// A disk that fails ends no run: its node stops, which is a line of the transcript, and is down until it is restarted. The server stops if
+/// either of its disks fails, and comes back by a restart from both, or by a promotion from the last alone.
 ///
 /// # The disks
 ///
 /// If the words name no job or an image is read, or the input is refused or was not read to its end, the disks are as they were, whatever
 /// the status.
 ///
-/// Else, with the statuses 0, 4 and 6, the first disk holds the commits, and the disk of each client what it keeps, whichever of its
-/// images a crash leaves; if a record is in doubt, without it or with it. That is so after all events; or, if a transcript was cut, after
-/// the event whose text was cut, or after the opening, if its text was. The disks that no client has are as they were. The count of a
-/// disk's faults rises in each event in which its node stops, in the opening if the server stops there, with status 6 once more, and at
-/// no other time. A disk is armed by the `stop` events of its node alone.
+/// Else, with the statuses 0, 4 and 6, the first disk and the last hold the commits, and the disk of each client what it keeps, whichever
+/// of its images a crash leaves; if a record of a client is in doubt, without it or with it. If a commit is in doubt, then whichever two
+/// images a crash leaves of the first disk and the last, both hold the commits without it, or they stand together for the commits with it:
+/// the first holds these, and so does the last, or it lacks that commit alone, whose record is the first one's last, and before which no
+/// checkpoint is due on the last. Since the backup was promoted the last disk holds the commits, without one that is in doubt or with it,
+/// and nothing is said of the first, which was given up.
+///
+/// That is so after all events; or, if a transcript was cut, after the event whose text was cut, or after the opening, if its text was. The
+/// disks that no client has are as they were. The count of faults of a node's disk rises in each event in which the node stops, in the
+/// opening if the server stops there, with status 6 once more, and at no other time; that of the server is the sum of those of its two
+/// disks, also if one was given up. A disk is armed by the `stop` events of its node alone: the first by `stop server` until the backup is
+/// promoted; the last by `stop backup`, and from then on by `stop server` too.
 ///
 /// With status 5 the disks are as they were; or some events were done, and memory ran out in the next one, or after them. No disk was
-/// armed but by those that were done, and each has failed as often as after them, or more often. Whichever of its images a crash leaves,
-/// the first disk holds the commits that the server had after them, in their order; behind these may be more. The disks of the clients that
-/// are not declared by them, or by the next one, are as they were.
+/// armed but by those that were done, and each has failed as often as after them, or more often, the server's two together. Whichever of
+/// its images a crash leaves, the last disk holds the commits that the server had after them, in their order, and so does the first,
+/// unless one of them was a promotion, or the next one is; behind these may be more. The disks of the clients that are not declared by
+/// them, or by the next one, are as they were.
 pub fn run<S: Source, K: Sink, D: Disk>(
     alloc: Global,
     words: &[&str],
@@ -101,7 +111,7 @@ pub fn run<S: Source, K: Sink, D: Disk>(
       holds = DisksKeep D.medium disks.items result.disks.items;
       unread = DisksKeepUnread D.medium disks.items result.disks.items;
       stays = DisksStay D.medium disks.items result.disks.items;
-      disk = first_reads D.medium result.disks.items;
+      disk = server_reads D.medium result.disks.items;
       untouched = result.disks.items ≡ disks.items;
     })) }
 
@@ -136,7 +146,7 @@ fn status_of<S: Source, K: Sink, D: Disk>(
       holds = DisksKeep D.medium disks.items result.1.items;
       unread = DisksKeepUnread D.medium disks.items result.1.items;
       stays = DisksStay D.medium disks.items result.1.items;
-      disk = first_reads D.medium result.1.items;
+      disk = server_reads D.medium result.1.items;
       untouched = result.1.items ≡ disks.items;
     }) result.0 }
     ensures source_faults { SourceCounts result.0 (record { before = S.faults source.old; after = S.faults source.new }) }
@@ -167,7 +177,7 @@ fn do_job<S: Source, K: Sink, D: Disk>(
       holds = DisksKeep D.medium disks.items result.1.items;
       unread = DisksKeepUnread D.medium disks.items result.1.items;
       stays = DisksStay D.medium disks.items result.1.items;
-      disk = first_reads D.medium result.1.items;
+      disk = server_reads D.medium result.1.items;
       untouched = result.1.items ≡ disks.items;
     }) job result.0 }
     ensures source_faults { SourceCounts result.0 (record { before = S.faults source.old; after = S.faults source.new }) }
@@ -200,7 +210,7 @@ fn do_run<S: Source, K: Sink, D: Disk>(
       holds = DisksKeep D.medium disks.items result.1.items;
       unread = DisksKeepUnread D.medium disks.items result.1.items;
       stays = DisksStay D.medium disks.items result.1.items;
-      disk = first_reads D.medium result.1.items;
+      disk = server_reads D.medium result.1.items;
       untouched = result.1.items ≡ disks.items;
     }) run result.0 }
     ensures source_faults { SourceCounts result.0 (record { before = S.faults source.old; after = S.faults source.new }) }

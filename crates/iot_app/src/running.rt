@@ -5,7 +5,7 @@ ghost use Rattle.iot_machine.specs.Json.{json_text};
 ghost use Rattle.iot_machine.specs.Machine.{Machine};
 ghost use Rattle.iot_machine.specs.Texts.{line};
 ghost use Rattle.iot_world.specs.Disks.{AreFresh, counts_on};
-ghost use Rattle.iot_app.specs.Keeping.{DisksKeep, DisksStay};
+ghost use Rattle.iot_app.specs.Keeping.{DisksKeepAt, DisksStay};
 ghost use Rattle.iot_machine.specs.Nodes.{Counts};
 ghost use Rattle.iot_world.specs.World.{StandsFor, IsWorldOfSome, KeepsDisks};
 ghost use Rattle.iot_app.specs.Played.{Reported, DidFirst};
@@ -20,29 +20,30 @@ use iot_words::Run;
 use iot_world::World;
 use std::alloc::Global;
 
-/// Does the events in turn, on these disks, and gives the disks back, with what the job has to say of the run. A job that writes what the
-/// events say, or what a disk holds, has nothing more to say.
+/// Does the events in turn, on these disks, and gives the disks back, with what the job has to say of the run, and the place of the
+/// server's disk. A job that writes what the events say, or what a disk holds, has nothing more to say.
 pub(crate) fn run_events<D: Disk>(
     alloc: Global,
     job: Run,
     events: &[Event],
     disks: Vec<D>,
-) -> (Result<Text, NoMemory>, Vec<D>)
+) -> (Result<Text, NoMemory>, usize, Vec<D>)
     requires declared { AreDeclared events.now 0 [] }
     requires fresh { AreFresh D.medium disks.items }
     ensures told { IfOk result.0 (λ text.
         Reported (map (counts_on D.medium) disks.items) (λ told. text ≡ told)
-        (DisksKeep D.medium disks.items result.1.items) (tells job) events.now) }
+        (DisksKeepAt D.medium disks.items result.2.items result.1) (tells job) events.now) }
     ensures failed { IfErr result.0 (λ _. DidFirst (map (counts_on D.medium) disks.items)
-        (DisksStay D.medium disks.items result.1.items) events.now) }
+        (DisksStay D.medium disks.items result.2.items) events.now) }
 {
     let mut opening = Text::new(alloc);
     match World::new(alloc, disks, &mut opening) {
         Ok(mut world) => {
             let told = run_in(alloc, job, opening, events, &mut world);
-            (told, world.into_disks())
+            let place = world.server_place();
+            (told, place, world.into_disks())
         }
-        Err(disks) => (Err(NoMemory), disks),
+        Err(disks) => (Err(NoMemory), 0, disks),
     }
 }
 

@@ -7,7 +7,7 @@ ghost use Rattle.iot_world.specs.Disks.{AreFresh, counts_on};
 ghost use Rattle.iot_app.specs.Keeping.{DisksKeep, DisksKeepUnread, DisksStay};
 ghost use Rattle.iot_words.specs.declared.jobs.Run.TheVariants.{Save};
 ghost use Rattle.iot_app.specs.Doing.{Did};
-ghost use Rattle.iot_app.specs.Saving.{first_reads};
+ghost use Rattle.iot_app.specs.Saving.{server_reads};
 ghost use Rattle.iot_app.specs.Status.{SinkCounts};
 
 use crate::running::run_events;
@@ -19,7 +19,7 @@ use iot_io::Sink;
 use iot_words::Run;
 use std::alloc::Global;
 
-/// Does the events, and then writes what the first disk reads as.
+/// Does the events, and then writes what the server's disk reads as.
 pub(crate) fn save<K: Sink, D: Disk>(
     alloc: Global,
     events: &[Event],
@@ -33,15 +33,15 @@ pub(crate) fn save<K: Sink, D: Disk>(
         (DisksKeep D.medium disks.items result.1.items)
         (DisksStay D.medium disks.items result.1.items)
         (DisksKeepUnread D.medium disks.items result.1.items)
-        (first_reads D.medium result.1.items)
+        (server_reads D.medium result.1.items)
         Save result.0 events.now }
     ensures sink_faults { SinkCounts result.0
         (record { before = K.faults sink.old; after = K.faults sink.new })
         (record { before = K.empties sink.old; after = K.empties sink.new }) }
 {
-    let (told, mut disks) = run_events(alloc, Run::Save, events, disks);
+    let (told, place, mut disks) = run_events(alloc, Run::Save, events, disks);
     match told {
-        Ok(_) => match read_whole(alloc, &mut disks[0]) {
+        Ok(_) => match read_whole(alloc, &mut disks[place]) {
             Ok(bytes) => (write_text(sink, &bytes, Status::Done), disks),
             Err(fault) => (Status::of_read(fault), disks),
         },

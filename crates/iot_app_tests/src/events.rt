@@ -1,5 +1,7 @@
 //! Event scripts whose events, or whose first bad line, were written by hand.
-use iot_event::{Choice, ClientEvent, Event, EventFault, NodeEvent, SharedProfile, Task, parse};
+use iot_event::{
+    Choice, ClientEvent, Event, EventFault, NodeEvent, Pick, SharedProfile, Task, parse,
+};
 use std::test::Fail;
 
 /// A script with a comment, blank lines and blocks, and other forms of line.
@@ -128,6 +130,29 @@ fn gives_what_befalls_nodes(rt: HostRuntime) -> Result<(), Fail> {
     assert!(rt; matches!(befalls_server(crash), Some(NodeEvent::Crash)));
     assert!(rt; matches!(befalls_server(restart), Some(NodeEvent::Restart)));
     assert!(rt; matches!(befalls_server(shown), Some(NodeEvent::Show)));
+    Ok(())
+}
+
+#[test]
+fn gives_what_befalls_the_backup(rt: HostRuntime) -> Result<(), Fail> {
+    let events = parse(rt.alloc(), b"stop backup 4 old\npromote")?;
+    let [stop, promote] = events.as_slice() else {
+        return Err(Fail::new("other events"));
+    };
+    assert!(rt;
+        matches!(
+            stop,
+            Event::StopBackup {
+                calls: 4,
+                pick: Pick::Old
+            }
+        )
+    );
+    assert!(rt; matches!(promote, Event::Promote));
+    let twice = parse(rt.alloc(), b"client backup");
+    assert!(rt; matches!(twice, Err(EventFault::Twice { line: 1 })));
+    let unknown = parse(rt.alloc(), b"crash backup");
+    assert!(rt; matches!(unknown, Err(EventFault::UnknownName { line: 1 })));
     Ok(())
 }
 

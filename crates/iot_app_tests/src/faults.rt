@@ -1,5 +1,5 @@
 //! Runs whose source or sink fails at each of their calls in turn: how they end, and what they have written by then.
-use crate::fixtures::{Failing, NONE, ran};
+use crate::fixtures::{Failing, NONE, joined, ran};
 use crate::jobs::{NOTHING, STARTED, USAGE};
 use std::alloc::Global;
 use std::process::Abort;
@@ -65,15 +65,6 @@ fn ends(
     assert_eq!(rt; ended.status, status);
     assert_eq!(rt; written.as_slice(), says);
     Ok(())
-}
-
-/// All these texts, one after the other.
-fn joined(alloc: Global, texts: &[&[u8]]) -> Result<Vec<u8>, Fail> {
-    let mut whole = Vec::new(alloc);
-    for text in texts {
-        whole.extend_from_slice(text)?;
-    }
-    Ok(whole)
 }
 
 #[test]

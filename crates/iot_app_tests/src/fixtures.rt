@@ -42,7 +42,7 @@ pub(crate) const NONE: Failing = Failing {
     pick: Pick::New,
 };
 
-/// Nine empty disks, of which one fails.
+/// Ten empty disks, of which one fails.
 fn armed_disks(alloc: Global, failing: Failing) -> Result<Vec<MemDisk>, NoMemory>
     ensures { IfOk result (λ disks. AreEmptyDisks disks.items) }
 {
@@ -68,6 +68,15 @@ pub(crate) fn ran(
     let disks = armed_disks(alloc, failing)?;
     let ended = run(alloc, words, &mut source, &mut sink, disks);
     Ok((ended, Vec::from_slice(alloc, sink.written())?))
+}
+
+/// All these texts, one after the other.
+pub(crate) fn joined(alloc: Global, texts: &[&[u8]]) -> Result<Vec<u8>, Fail> {
+    let mut whole = Vec::new(alloc);
+    for text in texts {
+        whole.extend_from_slice(text)?;
+    }
+    Ok(whole)
 }
 
 /// One of the disks of a run, after a restart.

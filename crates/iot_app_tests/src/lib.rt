@@ -4,6 +4,8 @@
 #[cfg(test)]
 mod audits;
 #[cfg(test)]
+mod backups;
+#[cfg(test)]
 mod events;
 #[cfg(test)]
 mod faults;

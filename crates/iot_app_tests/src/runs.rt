@@ -128,7 +128,7 @@ fn has_the_commit(rt: &impl Abort, alloc: Global, disk: Option<MemDisk>) -> Resu
     assert_eq!(rt; store.number_of(1, 1), None);
     let made = Path::parse(alloc, b"/d")?;
     assert!(rt; store.tree().kind(&made) == Kind::IsDir);
-    assert_eq!(rt; store.into_disk().bytes(), RECORDED);
+    assert_eq!(rt; store.into_disks().0.bytes(), RECORDED);
     Ok(())
 }
 

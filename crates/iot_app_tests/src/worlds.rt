@@ -13,8 +13,8 @@ use iot_world::World;
 use std::alloc::Global;
 use std::test::Fail;
 
-/// How many disks a world takes: one for the server, and one for each client that there may be.
-const COUNT: usize = 9;
+/// How many disks a world takes: two for the server, and one for each client that there may be.
+const COUNT: usize = 10;
 
 /// So many empty disks.
 fn fresh_disks(alloc: Global) -> Result<Vec<MemDisk>, NoMemory>
@@ -154,5 +154,26 @@ fn what_is_known_is_not_sent_again(rt: HostRuntime) -> Result<(), Fail> {
 
     // The requests have 26 and 42 bytes, of which 16 are the root with its stamp, and the replies 34 and 17.
     assert!(rt; traffic(&world) == Some((2, 68, 51)));
+    Ok(())
+}
+
+/// A server that commits, and then goes on from its backup.
+const GOES_ON: &[u8] =
+    b"client laptop\nscript one {\nwrite /one 1\n}\nhoard laptop /\nrun laptop one abort\ncrash server\npromote\n";
+
+#[test]
+fn a_promoted_server_has_the_last_disk(rt: HostRuntime) -> Result<(), Fail> {
+    let alloc = rt.alloc();
+    for (events, place) in [(EVENTS, 0), (GOES_ON, 9)] {
+        let events = parse(alloc, events)?;
+        let mut said = Text::new(alloc);
+        let Ok(world) = world_after(alloc, &events, fresh_disks(alloc)?, &mut said) else {
+            return Err(Fail::new("memory ran out"));
+        };
+        assert_eq!(rt; world.server_place(), place);
+        let path = Path::parse(alloc, b"/one")?;
+        assert!(rt; on_server(&world, &path) == Some(Kind::IsFile));
+        assert_eq!(rt; world.into_disks().len(), COUNT);
+    }
     Ok(())
 }

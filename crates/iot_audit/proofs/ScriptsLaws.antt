@@ -10,7 +10,7 @@ use Rattle.std.specs.Option.{option_or}
 use Rattle.std.specs.Prelude.{if◌then◌else◌, option_map}
 use Rattle.iot_audit.specs.Scripts.{code_named}
 use Rattle.iot_event.specs.declared.event.Event.{Event}
-use Rattle.iot_event.specs.declared.event.Event.TheVariants.{Client, Script, Profile, At, Server, Log}
+use Rattle.iot_event.specs.declared.event.Event.TheVariants.{Client, Script, Profile, At, Server, Promote, StopBackup, Log}
 use Rattle.iot_lang.specs.Code.{Code}
 use Rattle.iot_lang.specs.Scripts.{IsScript}
 
@@ -30,6 +30,8 @@ named_push name (Script other code ∷ front) event = by (bytes_eq other name) (
 named_push name (Profile other profile ∷ front) event = named_push name front event
 named_push name (At client what ∷ front) event = named_push name front event
 named_push name (Server what ∷ front) event = named_push name front event
+named_push name (Promote ∷ front) event = named_push name front event
+named_push name (StopBackup calls pick ∷ front) event = named_push name front event
 named_push name (Log ∷ front) event = named_push name front event
 
 or_none : (code : Option Code) → option_or code None ≡ code
@@ -142,6 +144,8 @@ no_script (Script other code) never name = absurd (never other code refl)
 no_script (Profile other profile) never name = refl
 no_script (At client what) never name = refl
 no_script (Server what) never name = refl
+no_script Promote never name = refl
+no_script (StopBackup calls pick) never name = refl
 no_script Log never name = refl
 
 module _ {V : Type 0} (code_of : V → Code) (front : List Event) (by_name : BTreeMap (List ℕ) V) (it : Named code_of front by_name)

@@ -1,4 +1,4 @@
-//! The program: `go_on` with the journal in a folder, standard input and output, and nine disks in memory.
+//! The program: `go_on` with the journal in a folder, standard input and output, and ten disks in memory.
 //!
 //! It takes one word, the folder, and makes it if it is not there. Besides the statuses of `go_on` it ends with 2 if it is given no word
 //! or more than one, with 7 if something else has written the journal's file, and with 9 if the journal cannot be opened, or another process

@@ -171,7 +171,7 @@ module _ {S C : Type 0} (rules : Version → Rules S C) where
     made_stands (Damaged at) encoded now is only makes = absurd cc
 
     -- an image that was opened alike, of a disk that was not started
-    fresh_stands : (d : Decoded) → opened first d ≡ Encodes (state_in Two first [] 0) → MakesBy rules d (rules Two).opening
+    pub fresh_stands : (d : Decoded) → opened first d ≡ Encodes (state_in Two first [] 0) → MakesBy rules d (rules Two).opening
     fresh_stands (Encodes state) is =
         subst (λ (e : State). MakesOf rules e (rules Two).opening) (sym (ap state_of is)) (makes_whole first (rules Two).opening spells)
     fresh_stands NotStarted is = refl

@@ -1,10 +1,13 @@
 -- Why a start gives no state.
-use Rattle.std.specs.Prelude.{◌≡◌, ℕ, List}
+use Rattle.std.specs.Prelude.{◌≡◌, ◌⊎◌, ℕ, List}
 use Rattle.iot_count.specs.Counts.{Rose, Stayed}
 use Rattle.iot_disk.specs.declared.faults.StartFault.{StartFault}
 use Rattle.iot_disk.specs.declared.faults.StartFault.TheVariants as fault
-use Rattle.iot_slots.specs.Decoding.{Foreign, decoded}
+use Rattle.iot_slots.specs.Decoding.{Foreign, Damaged, decoded}
 use Rattle.iot_slots.specs.declared.version.Version.{Version}
+use Rattle.iot_backup.specs.Start.{IsTaken, AreApart}
+use Rattle.iot_backup.specs.declared.faults.TwinFault.{TwinFault}
+use Rattle.iot_backup.specs.declared.faults.TwinFault.TheVariants.{Disk, Apart}
 use Rattle.iot_durable.specs.Rules.{Rules}
 use Rattle.iot_durable.specs.Standing.{header_of}
 use Rattle.iot_durable.specs.Damage.{BreaksAt, IsDamagedAt}
@@ -52,3 +55,43 @@ module _ {S C : Type 0} (rules : Rules S C) where
   IsReason fault.Stopped body bodies place = ⊥
   IsReason fault.Foreign body bodies place = ⊥
   IsReason (fault.Damaged at) body bodies place = BreaksAt rules body bodies place at
+
+-- ---- of two disks
+
+-- neither the bytes nor the counts are refused
+abbrev pub TakesBoth : TwinFault → Type 0
+TakesBoth (Disk fault) = TakesBytes fault
+TakesBoth (Apart first second) = ⊥
+
+-- the first disk is refused since something else wrote it, unless a disk failed or memory ran out
+abbrev pub SaysFirstForeign : TwinFault → Type 0
+SaysFirstForeign (Disk fault) = SaysForeign fault
+SaysFirstForeign (Apart first second) = ⊥
+
+-- it is refused since it is damaged there, unless a disk failed or memory ran out
+abbrev pub SaysFirstDamaged : (at : ℕ) → TwinFault → Type 0
+SaysFirstDamaged at (Disk fault) = SaysDamaged at fault
+SaysFirstDamaged at (Apart first second) = ⊥
+
+module _ {S C : Type 0} (rules : Version → Rules S C) where
+  -- The refusal of the first disk if it has one, else that of the second; or memory ran out; or a disk failed, the second only if the
+  -- first is not refused. Beside it stand what both disks' bytes are, and their counts of faults before and now.
+  abbrev pub HasDiskCause : StartFault → (one other : List ℕ) → (before now other_before other_now : ℕ) → Type 0
+  HasDiskCause fault.NoMemory one other before now other_before other_now = Stayed before now × Stayed other_before other_now
+  HasDiskCause fault.Stopped one other before now other_before other_now =
+      (Rose before now × Stayed other_before other_now)
+      ⊎ (IsTaken (decoded (header_of rules) one) × Stayed before now × Rose other_before other_now)
+  HasDiskCause fault.Foreign one other before now other_before other_now =
+      ((decoded (header_of rules) one ≡ Foreign)
+      ⊎ (IsTaken (decoded (header_of rules) one) × (decoded (header_of rules) other ≡ Foreign)))
+      × Stayed before now × Stayed other_before other_now
+  HasDiskCause (fault.Damaged at) one other before now other_before other_now =
+      (IsDamagedAt rules one at ⊎ (IsTaken (decoded (header_of rules) one) × (decoded (header_of rules) other ≡ Damaged at)))
+      × Stayed before now × Stayed other_before other_now
+
+  -- why a start from two disks gives no state
+  abbrev pub HasPairCause : TwinFault → (one other : List ℕ) → (before now other_before other_now : ℕ) → Type 0
+  HasPairCause (Disk why) one other before now other_before other_now = HasDiskCause why one other before now other_before other_now
+  HasPairCause (Apart first second) one other before now other_before other_now =
+      AreApart first second (decoded (header_of rules) one) (decoded (header_of rules) other)
+      × Stayed before now × Stayed other_before other_now

@@ -1,11 +1,12 @@
 -- The state for which the bytes of a disk stand.
 use Rattle.std.specs.Prelude.{◌≡◌, ◌⊎◌, ℕ, List, [], ◌∷◌}
 use Rattle.iot_slots.specs.Cells.{next}
-use Rattle.iot_slots.specs.Decoding.{Decoded, Encodes, NotStarted, Foreign, Damaged, State, decoded, state_in, state_of}
+use Rattle.iot_slots.specs.Decoding.{Decoded, Encodes, NotStarted, Foreign, Damaged, State, decoded, opened, state_in, state_of}
 use Rattle.iot_slots.specs.Slots.{appended, renewed, EachEncodesEither}
 use Rattle.iot_slots.specs.Start.{started, started_over}
 use Rattle.iot_slots.specs.declared.version.Version.{Version}
 use Rattle.iot_slots.specs.declared.version.Version.TheVariants.{Two}
+use Rattle.iot_backup.specs.Start.{IsBroughtUpFrom, brought_up}
 use Rattle.iot_durable.specs.Rules.{Rules}
 
 -- what follows byte 0 of a disk, in whichever version the rest is
@@ -116,3 +117,41 @@ module _ {S C : Type 0} (rules : Version → Rules S C) where
     pub body : List ℕ
     pub spells : (rules Two).IsBody body (rules Two).opening
     pub is : new ≡ started_over (header_of rules) body old
+
+  -- ---- of two disks
+
+  -- the first bytes end with a record that led to the state, and the second stand for the state before it
+  pub record LacksLast (one two : List ℕ) (now : S) : Type 0 where
+    pub encoded : State
+    pub body : List ℕ
+    pub before : S
+    pub change : C
+    pub is : decoded (header_of rules) one ≡ Encodes (appended encoded body)
+    pub makes : MakesOf encoded before
+    pub next : IsNext encoded body change
+    pub follows : (rules Two).CanFollow before change
+    pub after : now ≡ (rules Two).after before change
+    pub other : StandWith two encoded.count before
+
+  -- If the first bytes stand for the state, the second stand together with them: they stand for it too, or for the state before the last
+  -- record of the first.
+  abbrev pub StandTogether : (one other : List ℕ) → S → Type 0
+  StandTogether one other now = StandWith other (records_in rules one) now ⊎ LacksLast one other now
+
+  -- each image of the second disk stands for the state for which its bytes stood, or for that of the first
+  pub record EachBrings (images : List ℕ → Type 0) (one other : List ℕ) (now before : S) : Type 0 where
+    pub each : (image : List ℕ) → images image
+        → StandWith image (records_in rules other) before ⊎ StandWith image (records_in rules one) now
+
+  -- each image of the second disk is what its bytes were, or it was opened, or brought up to the first
+  pub record EachIsBroughtUp (images : List ℕ → Type 0) (one other : List ℕ) : Type 0 where
+    pub each : (image : List ℕ) → images image → (image ≡ other)
+        ⊎ ((body : List ℕ) × (rules Two).IsBody body (rules Two).opening × IsBroughtUpFrom (header_of rules) body one other image)
+
+  -- what the second disk encodes if that was done, by what the first one encodes
+  pub record IsBroughtUp (other : List ℕ) (one now : State) : Type 0 where
+    pub body : List ℕ
+    pub spells : (rules Two).IsBody body (rules Two).opening
+    pub was : State
+    pub opens : opened body (decoded (header_of rules) other) ≡ Encodes was
+    pub is : now ≡ brought_up one was

@@ -10,15 +10,15 @@ use thiserror::Error;
 /// Why a change was not noted.
 #[derive(Clone, Copy, Debug, PartialEq, Eq, Error)]
 pub enum NoteFault {
-    /// There was no memory: the change is not on the disk.
+    /// There was no memory: the change is not on the disk. If there are two, it may be on the first.
     #[error("out of memory")]
     NoMemory,
 
-    /// The disk failed in a checkpoint that came before the record: the change is not on the disk.
+    /// A disk failed in a checkpoint that came before the record: the change is on no disk.
     #[error("the disk failed before the record")]
     StoppedBefore,
 
-    /// The disk failed in the append of the record: the change may be on the disk or not.
+    /// A disk failed in the append of the record: the change may be on a disk or not.
     #[error("the disk failed in the record")]
     StoppedInDoubt,
 }

@@ -38,6 +38,7 @@ pub fn read_image<R: Recorded>(alloc: Global, bytes: &[u8]) -> Result<Found<R>, 
     ensures only { (state : R.Kept) → StandFor R.rules bytes.now state → IfOk result (λ found. R.kept found.state ≡ state) }
     ensures never { (state : R.Kept) → StandFor R.rules bytes.now state → IfErr result TakesBytes }
     ensures sound { IfOk result (λ found. R.IsSound found.state) }
+    ensures fresh { IfOk result (λ found. R.IsFresh found.state) }
 
     // What something else wrote, and what is damaged, is refused for that, unless memory runs out.
     ensures foreign { decoded (header_of R.rules) bytes.now ≡ Foreign → MatchResult result (λ _. ⊥) SaysForeign }

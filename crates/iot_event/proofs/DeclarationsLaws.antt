@@ -1,6 +1,6 @@
 -- What an input gives names only what it declared.
 use Rattle.std.proofs.Common.{◌≡◌, ℕ, ◌+◌, ◌<◌, ◌||◌, not, nat_lt, true, List, [], ◌∷◌, ◌++◌, length, bytes_eq}
-use Rattle.std.proofs.Common.{codes, Option, Some, None, Result, Ok, Err, is_some}
+use Rattle.std.proofs.Common.{Option, Some, None, Result, Ok, Err, is_some}
 use Rattle.std.proofs.Common.{refl, sym, subst, arith, length-append}
 use Rattle.std.specs.Option.{option_to_list}
 use Rattle.std.proofs.lemmas.List.Quantifiers.{position-Some}
@@ -29,7 +29,7 @@ use Rattle.iot_event.specs.Closing.{Closed, closed_by, first_closing}
 use Rattle.iot_event.specs.Profiles.{profile_of}
 use Rattle.iot_event.specs.Meanings.{Scope, nothing_declared, Meaning, Refused, Skipped, Says, Opens, Lists, is_declared, place_of}
 use Rattle.iot_event.specs.Meanings.{profile_named, choice_of, script_with, task_of, event_of}
-use Rattle.iot_event.specs.Meanings.{client_line, script_line, profile_line, if_known, at_line, meaning_of_form, meaning_of}
+use Rattle.iot_event.specs.Meanings.{is_servers, client_line, script_line, profile_line, if_known, at_line, meaning_of_form, meaning_of}
 use Rattle.iot_event.specs.Events.{Stops, Goes, with_profile, profile_step, IsStepOf, Outcome, Events, Fault, after_events}
 use Rattle.iot_event.specs.Events.{LinesGive, at_end, stop, go, Gives}
 use Rattle.iot_event.specs.Events as steps
@@ -110,7 +110,7 @@ module _ (scope : Scope) (number : ℕ) (profiles : AreProfiles scope.profiles) 
   client_sound : (name : List ℕ) → IsSound scope (client_line scope number name)
   client_sound name =
       let after : Scope = record scope { clients = scope.clients ++ name ∷ [] } in
-      cond_both (bytes_eq name (codes "server") || is_declared name scope.clients) (Refused (faults.Twice number)) _ (IsSound scope)
+      cond_both (is_servers name || is_declared name scope.clients) (Refused (faults.Twice number)) _ (IsSound scope)
       (λ is. tt)
       (λ is. cond_both (nat_lt (length scope.clients) CLIENT_LIMIT) (Says (Client name) after) (Refused (faults.TooMany number))
       (IsSound scope)
@@ -172,6 +172,8 @@ module _ (scope : Scope) (number : ℕ) (profiles : AreProfiles scope.profiles) 
   form_sound (Some (forms.Profile name)) fit later = profile_sound name (first_closing later)
   form_sound (Some (forms.At client what)) fit later = at_sound client what fit.fits
   form_sound (Some (forms.Server what)) fit later = record { allows = λ events are. (fit.fits, are); are = profiles }
+  form_sound (Some forms.Promote) fit later = record { allows = λ events are. are; are = profiles }
+  form_sound (Some (forms.StopBackup calls pick)) fit later = record { allows = λ events are. (fit.fits, are); are = profiles }
   form_sound (Some forms.Log) fit later = record { allows = λ events are. are; are = profiles }
 
 -- ---- each line

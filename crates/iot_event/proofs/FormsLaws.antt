@@ -11,8 +11,8 @@ use Rattle.iot_text.proofs.PathTextsLaws.{path_of-spells}
 use Rattle.iot_tree.specs.Profiles.{IsWalkLimit}
 use Rattle.iot_tree.specs.declared.limits.TheConstants.{WALK_LIMIT}
 use Rattle.iot_event.specs.declared.form.TheConstants.{STEP_LIMIT, TRANSACTION_LIMIT, READS_LIMIT, STOP_LIMIT}
+use Rattle.iot_disk.specs.declared.disk.Pick.{Pick}
 use Rattle.iot_event.specs.declared.event.Choice.{Choice}
-use Rattle.iot_event.specs.declared.event.NodeEvent.{NodeEvent}
 use Rattle.iot_event.specs.declared.event.NodeEvent.TheVariants.{Show, Stop, Crash, Restart}
 use Rattle.iot_event.specs.declared.event.LinkEvent.TheVariants.{Lose}
 use Rattle.iot_event.specs.declared.event.Task.{Task}
@@ -22,10 +22,10 @@ use Rattle.iot_event.specs.declared.event.ClientEvent.TheVariants.{Node, Link, T
 use Rattle.iot_event.specs.declared.form.Form.{Form}
 use Rattle.iot_event.specs.declared.form.Form.TheVariants as forms
 use Rattle.iot_event.specs.Numbers.{is_number, number_of}
-use Rattle.iot_event.specs.Declarations.{MayBeNamed, IsWithin}
-use Rattle.iot_event.specs.Forms.{node_event, link_event, lone_task, lone_event, two_words}
+use Rattle.iot_event.specs.Declarations.{MayBeNamed, IsCall, IsWithin}
+use Rattle.iot_event.specs.Forms.{one_word, node_event, link_event, lone_task, lone_event, two_words}
 use Rattle.iot_event.specs.Forms.{loss_of, event_with, event_of_words, three_words, plain_choice, resolver_choice, script_task}
-use Rattle.iot_event.specs.Forms.{choosing_form, pick_of, node_form, stop_words, step_words, walk_words, form_of}
+use Rattle.iot_event.specs.Forms.{choosing_form, pick_of, stop_form, stop_words, step_words, walk_words, form_of}
 
 -- ---- what fits, whatever is declared
 
@@ -81,6 +81,7 @@ EventFits (Does what) = TaskFits what
 abbrev pub FormFits : Form → Type 0
 FormFits (forms.At client what) = EventFits what
 FormFits (forms.Server what) = IsWithin what
+FormFits (forms.StopBackup calls pick) = IsCall calls
 FormFits _ = Unit {0}
 
 -- a number within its limit
@@ -151,9 +152,14 @@ choosing_fits first client script option =
     (then_fits _ option (any_fits option) (λ choice any. map_fits _ _ (script_task_fits first script choice) (λ what fit. fit)))
     none_fits
 
-node_form_fits : (node : List ℕ) (what : NodeEvent) → IsWithin what → Fits FormFits (node_form node what)
-node_form_fits node what within =
-    if_fits _ _ _ (some_fits (forms.Server what) within) (if_fits _ _ _ (some_fits (forms.At node (Node what)) within) none_fits)
+one_word_fits : (word : List ℕ) → Fits FormFits (one_word word)
+one_word_fits word = if_fits _ _ _ (some_fits forms.Log tt) (if_fits _ _ _ (some_fits forms.Promote tt) none_fits)
+
+stop_form_fits : (node : List ℕ) (calls : ℕ) (pick : Pick) → IsCall calls → Fits FormFits (stop_form node calls pick)
+stop_form_fits node calls pick within =
+    if_fits _ _ _ (some_fits (forms.Server (Stop calls pick)) within)
+    (if_fits _ _ _ (some_fits (forms.StopBackup calls pick) within)
+    (if_fits _ _ _ (some_fits (forms.At node (Node (Stop calls pick))) within) none_fits))
 
 two_words_fits : (first second : List ℕ) → Fits FormFits (two_words first second)
 two_words_fits first second =
@@ -171,7 +177,7 @@ three_words_fits first second third =
 stop_words_fits : (node calls pick : List ℕ) → Fits FormFits (stop_words node calls pick)
 stop_words_fits node calls pick =
     then_fits _ _ (number_fits calls STOP_LIMIT)
-    (λ k within. then_fits _ _ (any_fits (pick_of pick)) (λ p any. node_form_fits node (Stop k p) within))
+    (λ k within. then_fits _ _ (any_fits (pick_of pick)) (λ p any. stop_form_fits node k p within))
 
 step_words_fits : (client count transaction : List ℕ) → Fits FormFits (step_words client count transaction)
 step_words_fits client count transaction =
@@ -188,7 +194,7 @@ walk_words_fits client profile limit =
 
 pub form_fits : (found : List (List ℕ)) → Fits FormFits (form_of found)
 form_fits [] = none_fits
-form_fits (a ∷ []) = if_fits _ _ _ (some_fits forms.Log tt) none_fits
+form_fits (a ∷ []) = one_word_fits a
 form_fits (a ∷ b ∷ []) = two_words_fits a b
 form_fits (a ∷ b ∷ c ∷ []) = three_words_fits a b c
 form_fits (a ∷ b ∷ c ∷ d ∷ []) =

@@ -15,7 +15,7 @@ use Rattle.iot_event.specs.declared.event.Task.TheVariants.{Sync, Drain, Repair,
 use Rattle.iot_event.specs.declared.event.ClientEvent.{ClientEvent}
 use Rattle.iot_event.specs.declared.event.ClientEvent.TheVariants as client_events
 use Rattle.iot_event.specs.declared.event.Event.{Event}
-use Rattle.iot_event.specs.declared.event.Event.TheVariants.{Client, Script, Profile, At, Server, Log}
+use Rattle.iot_event.specs.declared.event.Event.TheVariants.{Client, Script, Profile, At, Server, Promote, StopBackup, Log}
 
 -- the resolver of an option, if it has one, is one of so many scripts
 abbrev pub ResolverIsDeclared : Choice ℕ → (scripts : ℕ) → Type 0
@@ -44,9 +44,13 @@ TaskIsDeclared Discard scripts = Unit {0}
 TaskIsDeclared Queue scripts = Unit {0}
 TaskIsDeclared (Reads item) scripts = (1 ≤ item) × (item ≤ READS_LIMIT)
 
+-- a line can name this device call
+abbrev pub IsCall : (calls : ℕ) → Type 0
+IsCall calls = (1 ≤ calls) × (calls ≤ STOP_LIMIT)
+
 abbrev pub IsWithin : NodeEvent → Type 0
 IsWithin Show = Unit {0}
-IsWithin (Stop calls pick) = (1 ≤ calls) × (calls ≤ STOP_LIMIT)
+IsWithin (Stop calls pick) = IsCall calls
 IsWithin Crash = Unit {0}
 IsWithin Restart = Unit {0}
 
@@ -66,4 +70,6 @@ AreDeclared (Profile name profile ∷ later) clients scripts = IsProfile profile
 AreDeclared (At client what ∷ later) clients scripts =
     (client < clients) × ClientEventIsDeclared what (length scripts) × AreDeclared later clients scripts
 AreDeclared (Server what ∷ later) clients scripts = IsWithin what × AreDeclared later clients scripts
+AreDeclared (Promote ∷ later) clients scripts = AreDeclared later clients scripts
+AreDeclared (StopBackup calls pick ∷ later) clients scripts = IsCall calls × AreDeclared later clients scripts
 AreDeclared (Log ∷ later) clients scripts = AreDeclared later clients scripts

@@ -22,11 +22,14 @@ use Rattle.iot_event.specs.declared.event.Task.TheVariants.{Sync, Drain, Repair,
 use Rattle.iot_event.specs.declared.event.ClientEvent.{ClientEvent}
 use Rattle.iot_event.specs.declared.event.ClientEvent.TheVariants.{Node, Link, Task}
 use Rattle.iot_event.specs.declared.form.Form.{Form}
-use Rattle.iot_event.specs.declared.form.Form.TheVariants.{Client, Script, Profile, At, Server, Log}
+use Rattle.iot_event.specs.declared.form.Form.TheVariants.{Client, Script, Profile, At, Server, Promote, StopBackup, Log}
 
--- `log`
+-- `log` or `promote`
 abbrev pub one_word : List ℕ → Option Form
-one_word word = if bytes_eq word (codes "log") then Some Log else None
+one_word word =
+    if bytes_eq word (codes "log") then Some Log
+    else if bytes_eq word (codes "promote") then Some Promote
+    else None
 
 -- ---- what one word says of a node, of a link or of a client
 
@@ -142,16 +145,17 @@ pick_of word =
     else if bytes_eq word (codes "new") then Some New
     else option_map (λ byte. Fill byte) (byte_of word)
 
--- what befalls the server or a client
-abbrev pub node_form : (node : List ℕ) → NodeEvent → Option Form
-node_form node what =
-    if bytes_eq node (codes "server") then Some (Server what)
-    else if is_name node then Some (At node (Node what))
+-- the disk of the server, of its backup or of a client is to fail
+abbrev pub stop_form : (node : List ℕ) → (calls : ℕ) → Pick → Option Form
+stop_form node calls pick =
+    if bytes_eq node (codes "server") then Some (Server (Stop calls pick))
+    else if bytes_eq node (codes "backup") then Some (StopBackup calls pick)
+    else if is_name node then Some (At node (Node (Stop calls pick)))
     else None
 
 -- `stop NODE k PICK`, if the number is one and the pick is
 abbrev pub stopping_form : (node : List ℕ) → Option ℕ → Option Pick → Option Form
-stopping_form node calls pick = option_and_then (λ k. option_and_then (λ p. node_form node (Stop k p)) pick) calls
+stopping_form node calls pick = option_and_then (λ k. option_and_then (λ p. stop_form node k p) pick) calls
 
 abbrev pub stop_words : (node calls pick : List ℕ) → Option Form
 stop_words node calls pick = stopping_form node (number_of calls STOP_LIMIT) (pick_of pick)

@@ -20,7 +20,7 @@ use Rattle.iot_event.specs.declared.event.Task.TheVariants.{Sync, Drain, Repair,
 use Rattle.iot_event.specs.declared.event.ClientEvent.{ClientEvent}
 use Rattle.iot_event.specs.declared.event.ClientEvent.TheVariants as client_events
 use Rattle.iot_event.specs.declared.event.Event.{Event}
-use Rattle.iot_event.specs.declared.event.Event.TheVariants.{Client, At, Server, Log}
+use Rattle.iot_event.specs.declared.event.Event.TheVariants.{Client, At, Server, Promote, StopBackup, Log}
 use Rattle.iot_event.specs.declared.fault.EventFault.{EventFault}
 use Rattle.iot_event.specs.declared.fault.EventFault.TheVariants.{BadLine, UnknownName, Twice, TooMany}
 
@@ -93,10 +93,14 @@ pub data Meaning : Type 0 where
   Opens : (name : List ℕ) (script : Closed) (after : Scope) → Meaning
   Lists : (name : List ℕ) (block : Closed) → Meaning
 
--- a client that is not a node yet, as the server is, if there may be one more
+-- the server and its backup are nodes from the start
+abbrev pub is_servers : (name : List ℕ) → Bool
+is_servers name = bytes_eq name (codes "server") || bytes_eq name (codes "backup")
+
+-- a client that is not a node yet, if there may be one more
 abbrev pub client_line : Scope → (number : ℕ) (name : List ℕ) → Meaning
 client_line scope number name =
-    if bytes_eq name (codes "server") || is_declared name scope.clients then Refused (Twice number)
+    if is_servers name || is_declared name scope.clients then Refused (Twice number)
     else if nat_lt (length scope.clients) CLIENT_LIMIT
     then Says (Client name) (record scope { clients = scope.clients ++ name ∷ [] })
     else Refused (TooMany number)
@@ -137,6 +141,8 @@ meaning_of_form (Some (forms.Script name)) scope number later = script_line scop
 meaning_of_form (Some (forms.Profile name)) scope number later = profile_line scope number name (first_closing later)
 meaning_of_form (Some (forms.At client what)) scope number later = at_line scope number client what
 meaning_of_form (Some (forms.Server what)) scope number later = Says (Server what) scope
+meaning_of_form (Some forms.Promote) scope number later = Says Promote scope
+meaning_of_form (Some (forms.StopBackup calls pick)) scope number later = Says (StopBackup calls pick) scope
 meaning_of_form (Some forms.Log) scope number later = Says Log scope
 
 -- the line of this number, before these lines; the rule on bytes and length comes first

@@ -3,7 +3,7 @@ ghost use Rattle.std.specs.Prelude.{◌≡◌, ◌+◌, ◌<◌, ◌≤◌, ◌^
 ghost use Rattle.iot_lines.specs.Lines.{lines};
 ghost use Rattle.iot_event.specs.Closing.{closed_by, first_closing};
 ghost use Rattle.iot_event.specs.Meanings.{Scope, Meaning, nothing_declared, place_of, profile_named, choice_of, task_of, event_of};
-ghost use Rattle.iot_event.specs.Meanings.{client_line, script_line, profile_line, at_line, meaning_of_form};
+ghost use Rattle.iot_event.specs.Meanings.{is_servers, client_line, script_line, profile_line, at_line, meaning_of_form};
 ghost use Rattle.iot_event.specs.Events.{IsStep, IsStepOf};
 ghost use Rattle.iot_event.specs.Results.{scope_of, AnswersEvent, AnswersKnown, AnswersFound, AnswersScript, AnswersProfile, Answers};
 
@@ -43,6 +43,13 @@ pub(crate) struct Declared {
     clients: IndexSet<Name>,
     scripts: IndexSet<Name>,
     profiles: IndexMap<Name, SharedProfile>,
+}
+
+/// Whether a name is that of the server or of its backup, which are nodes from the start.
+fn is_servers(name: &[u8]) -> bool
+    ensures { result ≡ is_servers name.now }
+{
+    name == b"server".as_slice() || name == b"backup".as_slice()
 }
 
 /// The place of a name that a line gives, among those that were declared.
@@ -183,7 +190,7 @@ impl Declared {
     fn client_line(&mut self, name: Name, number: u64) -> Result<Event, EventFault>
         ensures { AnswersEvent (client_line (scope_of self.old) number name) result self.new }
     {
-        if name.as_bytes() == b"server".as_slice() || self.clients.contains(&name) {
+        if is_servers(name.as_bytes()) || self.clients.contains(&name) {
             return Err(EventFault::Twice { line: number });
         }
         if self.clients.len() >= CLIENT_LIMIT {
@@ -334,6 +341,10 @@ impl Declared {
                 after_line(self.at_line(client, what, number), later, number)
             }
             Form::Server(what) => after_line(Ok(Event::Server(what)), later, number),
+            Form::Promote => after_line(Ok(Event::Promote), later, number),
+            Form::StopBackup { calls, pick } => {
+                after_line(Ok(Event::StopBackup { calls, pick }), later, number)
+            }
             Form::Log => after_line(Ok(Event::Log), later, number),
         }
     }

@@ -150,6 +150,15 @@ pub enum Event {
     /// An event of the server.
     Server(NodeEvent),
 
+    /// `promote`: the server, which is down, comes back from its backup, and has none from then on. Its first disk is given up.
+    Promote,
+
+    /// `stop backup k PICK`: as `stop server k PICK`, but of the disk of the server's backup.
+    StopBackup {
+        calls: u64,
+        pick: Pick,
+    },
+
     /// `log`: what was committed is printed.
     Log,
 }

@@ -5,7 +5,7 @@ ghost use Rattle.iot_text.specs.Names.{is_name};
 ghost use Rattle.iot_text.specs.Paths.{path_of};
 ghost use Rattle.iot_event.specs.Forms.{one_word, node_event, link_event, lone_task, lone_event, server_form, client_form, two_words};
 ghost use Rattle.iot_event.specs.Forms.{loss_of, event_with, event_of_words, three_words, plain_choice, resolver_choice};
-ghost use Rattle.iot_event.specs.Forms.{script_task, script_form, pick_of, node_form, stop_words, step_words, four_words, five_words};
+ghost use Rattle.iot_event.specs.Forms.{script_task, script_form, pick_of, stop_form, stop_words, step_words, four_words, five_words};
 ghost use Rattle.iot_event.specs.Forms.{walk_words, form_of};
 
 use crate::event::{Choice, ClientEvent, LinkEvent, NodeEvent, Task};
@@ -50,6 +50,15 @@ pub(crate) enum Form {
     /// An event of the server.
     Server(NodeEvent),
 
+    /// `promote`
+    Promote,
+
+    /// `stop backup k PICK`
+    StopBackup {
+        calls: u64,
+        pick: Pick,
+    },
+
     /// `log`
     Log,
 }
@@ -78,6 +87,9 @@ fn one_word(word: &[u8]) -> Option<Form>
 {
     if word == b"log".as_slice() {
         return Some(Form::Log);
+    }
+    if word == b"promote".as_slice() {
+        return Some(Form::Promote);
     }
     None
 }
@@ -335,16 +347,19 @@ fn pick_of(word: &[u8]) -> Option<Pick>
     Some(Pick::Fill(byte_of(word)?))
 }
 
-/// The form of a line that has this befall this node.
-fn node_form(node: &[u8], what: NodeEvent) -> Option<Form>
-    ensures { result ≡ node_form node.now what }
+/// The form of a line that has this device call of this node's disk fail.
+fn stop_form(node: &[u8], calls: u64, pick: Pick) -> Option<Form>
+    ensures { result ≡ stop_form node.now calls pick }
 {
     if node == b"server".as_slice() {
-        return Some(Form::Server(what));
+        return Some(Form::Server(NodeEvent::Stop { calls, pick }));
+    }
+    if node == b"backup".as_slice() {
+        return Some(Form::StopBackup { calls, pick });
     }
     Some(Form::At {
         client: name_of(node)?,
-        what: ClientEvent::Node(what),
+        what: ClientEvent::Node(NodeEvent::Stop { calls, pick }),
     })
 }
 
@@ -354,7 +369,7 @@ fn stop_words(node: &[u8], calls: &[u8], pick: &[u8]) -> Option<Form>
 {
     let calls = number_of(calls, STOP_LIMIT)?;
     let pick = pick_of(pick)?;
-    node_form(node, NodeEvent::Stop { calls, pick })
+    stop_form(node, calls, pick)
 }
 
 /// The form of a line that has a client make so many steps of this transaction.

@@ -1,12 +1,15 @@
 -- A client with the server: what they are that are ready, what is known of their disks, how what they do goes together, and how a task is
 -- one of the machine, also if the client is down.
 use Rattle.std.proofs.Common.{◌≡◌, ◌≤◌, ℕ, List, Option, Some, refl, sym, ap, subst, ◌∙◌, suc, ◌+◌, ◌-◌, ◌<◌, Bool, true, false, ◌++◌, None}
+use Rattle.std.proofs.Common.{inl}
+use Rattle.std.specs.Prelude.{IsSome}
 use Rattle.std.proofs.Common.{Result, Ok, Err, IsErrAnd, arith, is_some, ◌*◌, ◌&&◌, not, [], ◌∷◌, length, codes, length-append}
 use Rattle.iot_server_node.proofs.BeginningLaws.{records_same, records_then}
 use Rattle.std.proofs.lemmas.List.{append-nil}
 use Rattle.iot_laptop.proofs.NodesLaws.{is_awake, is_down, awake_stands}
 use Rattle.iot_standing.proofs.StatesLaws.{runs_is, waits_is}
 use Rattle.iot_machine.specs.Clients as clients
+use Rattle.iot_disk.specs.Disk.{Storing}
 use Rattle.iot_node.proofs.StepsToLaws as calls
 use Rattle.iot_server_node.proofs.ServersLaws as servers
 use Rattle.iot_laptop.proofs.CallsLaws as laptops
@@ -16,6 +19,7 @@ use Rattle.iot_exchange.specs.Words.{Asks, Answers, Tells, Then, Goes, either, R
 use Rattle.iot_exchange.specs.Words.{Pair, OnConflict, unless_stopped, Notes, KeepsDisk, StepsTo, Halt, NoMemory, Over, disk_of}
 use Rattle.iot_exchange.specs.Words.{ServerStands, ServerNode, KeepsRecords, Stands, awake, disk_in, SamePlace, Laptop, NotesAlone, Whole}
 use Rattle.iot_exchange.specs.Words.{is_alive, fallen, Nodes, after_acts, Item, is_drained, IfUp, line, pends, runs, SyncsAll, ItemsStand}
+use Rattle.iot_exchange.specs.Words.{KeepsBeside, on_both}
 use Rattle.iot_exchange.specs.Words.{KeepsTrails, UnlessNoMemory, state_in, stamps_in, waits_of, ClientStands, done, has_any, kept}
 use Rattle.iot_exchange.specs.Words.{Compared, Compares, Yields, yield_if, YieldsAlone, YieldsAndNotes, yields_by, yielding}
 use Rattle.iot_exchange.specs.Words.{CertifiesAlone, ComparesAlone, certify_alone, change_by, notes_found}
@@ -45,33 +49,50 @@ at_as here is place name = record {
 
 -- ---- disks
 
+module _ {P I : Type 0} (storing : Storing P I) where
+  -- there are disks, which are as they were
+  keeps_there : (one : Option P) → IsSome one → KeepsDisk storing one one
+  keeps_there None some = absurd cc
+  keeps_there (Some disk) some = record { was = disk; now = disk; old_has = refl; new_has = refl; arms = refl; faults = inl refl }
+
+  -- as there are after a call
+  keeps_new : {old new : Option P} → KeepsDisk storing old new → KeepsDisk storing new new
+  keeps_new {new = new} keeps = keeps_there new (ap is_some keeps.new_has)
+
 module _ {D : Type 0} {medium : Medium D} where
   pub keeps_then : {u v w : Both D} → KeepsDisks medium u v → KeepsDisks medium v w → KeepsDisks medium u w
   keeps_then one other = record {
     client = restarts.keeps_then medium _ _ _ one.client other.client;
-    server = restarts.keeps_then medium _ _ _ one.server other.server;
-    records = records_then medium _ _ _ one.records other.records;
+    server = restarts.keeps_then (on_both medium) _ _ _ one.server other.server;
+    beside = λ promoted arms had. other.beside promoted arms (one.beside promoted arms had);
+    records = records_then (on_both medium) _ _ _ one.records other.records;
   }
 
-  -- so has each its disk afterwards
-  keeps_new : {old new : Option D} → KeepsDisk medium old new → KeepsDisk medium new new
-  keeps_new {new = new} keeps = servers.keeps_same medium new new (ap is_some keeps.new_has) refl
-
+  -- so has each its disks afterwards
   pub keeps_now : {u v : Both D} → KeepsDisks medium u v → KeepsDisks medium v v
-  keeps_now keeps =
-      record { client = keeps_new keeps.client; server = keeps_new keeps.server; records = records_same medium _ _ refl }
+  keeps_now keeps = record {
+    client = keeps_new medium keeps.client;
+    server = keeps_new (on_both medium) keeps.server;
+    beside = λ promoted arms had. had;
+    records = records_same (on_both medium) _ _ refl;
+  }
 
   -- and after one more call of the client alone
   pub keeps_more : {u v : Both D} {laptop : Laptop D} → KeepsDisks medium u v → KeepsDisk medium (disk_in v.laptop) (disk_in laptop)
       → KeepsDisks medium u (two laptop v.server)
-  keeps_more keeps more =
-      keeps_then keeps (record { client = more; server = keeps_new keeps.server; records = records_same medium _ _ refl })
+  keeps_more keeps more = keeps_then keeps (record {
+    client = more;
+    server = keeps_new (on_both medium) keeps.server;
+    beside = λ promoted arms had. had;
+    records = records_same (on_both medium) _ _ refl;
+  })
 
   -- the client's is the same
   pub keeps_served : {u : Both D} {laptop : Laptop D} {server : ServerNode D} → KeepsDisks medium u u → disk_in laptop ≡ disk_in u.laptop
-      → KeepsDisk medium (disk_of u.server) (disk_of server) → KeepsRecords medium (disk_of u.server) (disk_of server)
-      → KeepsDisks medium u (two laptop server)
-  keeps_served keeps same served records = record { client = rw same keeps.client; server = served; records = records }
+      → KeepsDisk (on_both medium) (disk_of u.server) (disk_of server) → KeepsBeside medium u.server server
+      → KeepsRecords (on_both medium) (disk_of u.server) (disk_of server) → KeepsDisks medium u (two laptop server)
+  keeps_served keeps same served beside records =
+      record { client = rw same keeps.client; server = served; beside = beside; records = records }
 
   pub laptop_keeps : {laptop : Laptop D} → Stands medium laptop → KeepsDisk medium (disk_in laptop) (disk_in laptop)
   laptop_keeps {laptop} here = laptops.keeps_same medium laptop.post (is_awake medium here.scripts laptop here.machine here.stands)
@@ -96,9 +117,10 @@ module _ {D : Type 0} {medium : Medium D} where
     keeps_standing here = record {
       client = restarts.keeps_any medium u.laptop (anyhow here);
       server =
-          servers.keeps_same medium (disk_of u.server) (disk_of u.server)
-          (servers.has_disk medium names u.server.post pair.server here.server.post) refl;
-      records = records_same medium (disk_of u.server) (disk_of u.server) refl;
+          keeps_there (on_both medium) (disk_of u.server)
+          (servers.has_disk medium names u.server.post pair.server here.server.post);
+      beside = λ promoted arms had. had;
+      records = records_same (on_both medium) (disk_of u.server) (disk_of u.server) refl;
     }
 
     pub ready_by : UpStands medium scripts names c u pair → IsReadyWith medium scripts u

@@ -7,7 +7,7 @@ use Rattle.iot_exchange.specs.Words.{Option, Vec, ℕ, List, None, Some, Result,
 use Rattle.iot_exchange.specs.Words.{Declared, Client, Commit, Pair, Node, Submission, Verdict, Lends, Judges, Exchange, KeepsDisk, StepsTo}
 use Rattle.iot_exchange.specs.Words.{Halt, SpellsVerdict, SpellsCut, KeepsRecords, ServerStands, IsHanded, IsNamedIn, disk_of, Message}
 use Rattle.iot_exchange.specs.Words.{ServerNode, Stands, LaptopStands, ClientStands, disk_in, Laptop, Stamps, nodes_of, is_up, stamps_in}
-use Rattle.iot_exchange.specs.Words.{stamps_of, true}
+use Rattle.iot_exchange.specs.Words.{stamps_of, true, on_both, KeepsBeside}
 use Rattle.iot_judging.specs.Lists.{Follows}
 use Rattle.iot_standing.specs.Scripts.{IsMeant}
 
@@ -47,11 +47,12 @@ UpStands medium scripts names c = PairStands c (IsAt (LaptopStands medium script
 abbrev pub AnyStands : {D : Type 0} → Medium D → List Declared → (names : List (List ℕ)) → (c : ℕ) → Both D → Pair → Type 0
 AnyStands medium scripts names c = PairStands c (IsAt (ClientStands medium scripts) names c) (ServerStands medium names)
 
--- both have their disks, and neither was armed; the server's has lost no commit
+-- both have their disks, the server its backup, too, and none was armed or given up; the server's have lost no commit
 pub record KeepsDisks {D : Type 0} (medium : Medium D) (old new : Both D) : Type 0 where
   pub client : KeepsDisk medium (disk_in old.laptop) (disk_in new.laptop)
-  pub server : KeepsDisk medium (disk_of old.server) (disk_of new.server)
-  pub records : KeepsRecords medium (disk_of old.server) (disk_of new.server)
+  pub server : KeepsDisk (on_both medium) (disk_of old.server) (disk_of new.server)
+  pub beside : KeepsBeside medium old.server new.server
+  pub records : KeepsRecords (on_both medium) (disk_of old.server) (disk_of new.server)
 
 -- they stand for some pair, among some scripts; so the client is alive, and one of at most eight
 pub record IsReady {D : Type 0} (medium : Medium D) (w : Both D) : Type 0 where

@@ -74,10 +74,11 @@ pub use Rattle.iot_node.specs.Steps.{StepsTo}
 pub use Rattle.iot_node.specs.declared.halt.Halt.{Halt}
 pub use Rattle.iot_node.specs.declared.halt.Halt.TheVariants.{NoMemory, Over}
 pub use Rattle.iot_node.specs.declared.lines.Transaction.{Transaction}
+pub use Rattle.iot_server_node.specs.Disks.{on_both}
 pub use Rattle.iot_server_node.specs.Messages.{IsSomeRequest, SpellsCut, said_of}
 pub use Rattle.iot_server_node.specs.Records.{KeepsRecords}
 pub use Rattle.iot_server_node.specs.Servers.{HavingAnswered, IsHanded, IsNamedIn, IsSubmission, ServerIsSound, ServerStands, ServesBy}
-pub use Rattle.iot_server_node.specs.Servers.{disk_of, is_up, stamps_of}
+pub use Rattle.iot_server_node.specs.Servers.{KeepsBeside, disk_of, is_up, stamps_of}
 pub use Rattle.iot_server_node.specs.declared.message.Message.{Message}
 pub use Rattle.iot_server_node.specs.declared.server.Served.{Served}
 pub use Rattle.iot_server_node.specs.declared.server.ServerNode.{ServerNode}

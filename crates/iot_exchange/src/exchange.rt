@@ -1,7 +1,7 @@
 //! A message to the server over a client's link, and its reply.
 ghost use Rattle.std.specs.Prelude.{◌≡◌, ◌++◌};
 ghost use Rattle.iot_exchange.specs.Words.{IfSome, IsSomeRequest, ServerIsSound, ℕ, List, true, false, IfOk, IfErr, OnOk, Declared};
-ghost use Rattle.iot_exchange.specs.Words.{state_in, KeepsDisk, said_of, KeepsRecords, ServerStands, is_up, disk_of};
+ghost use Rattle.iot_exchange.specs.Words.{state_in, KeepsBeside, KeepsDisk, said_of, KeepsRecords, ServerStands, is_up, disk_of, on_both};
 ghost use Rattle.iot_exchange.specs.Pairs.{two, IsReady, KeepsDisks, Query, AsksFor, Spells, request_of, Serves, Asked, MissesAll};
 ghost use Rattle.iot_exchange.specs.Pairs.{LendsIfReplied};
 
@@ -60,8 +60,9 @@ fn serve<D: Disk>(
     ensures asks { IfOk result (λ reply. (names : List (List ℕ)) (query : Query) → AsksFor names message.now server.old query
         → Serves (ServerStands D.medium names) (Spells query) (request_of query) reply server.old server.new out.old out.new) }
     ensures lends { IfOk result (λ reply. LendsIfReplied message.now reply server.old server.new) }
-    ensures disk { KeepsDisk D.medium (disk_of server.old) (disk_of server.new) }
-    ensures records { KeepsRecords D.medium (disk_of server.old) (disk_of server.new) }
+    ensures disk { KeepsDisk (on_both D.medium) (disk_of server.old) (disk_of server.new) }
+    ensures beside { KeepsBeside D.medium server.old server.new }
+    ensures records { KeepsRecords (on_both D.medium) (disk_of server.old) (disk_of server.new) }
 {
     let Some(served) = server.serve(alloc, message, out)? else {
         return Ok(None);

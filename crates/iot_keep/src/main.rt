@@ -77,7 +77,7 @@ fn keep<S: Source, K: Sink>(
 /// The disk of a server that was just started, by which a file is told that something else has written.
 fn first(alloc: Global) -> Result<MemDisk, Fault> {
     match Server::start(alloc, MemDisk::new(alloc)) {
-        Ok(server) => Ok(server.into_disk()),
+        Ok(server) => Ok(server.into_disks().0),
         Err(_) => Err(Fault::Serve(ServeFault::NoMemory)),
     }
 }

@@ -1,3 +1,4 @@
+pub mod DisksLaws
 pub mod FramesLaws
 pub mod ServingLaws
 pub mod EndingsLaws

@@ -1,17 +1,21 @@
 -- What a server that serves frames answers, and how it ends.
 use Rattle.std.specs.Prelude.{◌≡◌, ◌≤◌, ◌⊎◌, ℕ, ◌-◌, ◌^◌, List, [], ◌∷◌, ◌++◌, length, Result, Ok, Err}
 use Rattle.iot_disk.specs.Disk.{Medium}
-use Rattle.iot_server.specs.Faults.{CutsOff}
+use Rattle.iot_durable.specs.Standing.{EachGoes}
 use Rattle.iot_server.specs.Replies.{IsHandled}
 use Rattle.iot_server.specs.Servers as servers
 use Rattle.iot_server.specs.declared.server.Server.{Server}
 use Rattle.iot_slots.specs.Decoding.{State as Encoded}
-use Rattle.iot_store.specs.Standing.{EachStands}
-use Rattle.iot_store.specs.States.{State}
+use Rattle.iot_store.specs.Rules.{rules}
+use Rattle.iot_store.specs.Standing.{EachStands, EachStandsEither}
+use Rattle.iot_store.specs.States.{State, CanFollow, after_commit}
+use Rattle.iot_tree.specs.declared.access.Access.{Access}
+use Rattle.iot_tree.specs.declared.labels.Label.{Label}
 use Rattle.iot_wire.specs.Messages.{IsMessage}
 use Rattle.iot_wire.specs.Rules.{IsRequest}
 use Rattle.iot_wire.specs.Spelling.{request_spelling}
 use Rattle.iot_wire.specs.declared.requests.Request.{Request}
+use Rattle.iot_wire.specs.declared.requests.Request.TheVariants.{Commit}
 use Rattle.iot_keep_app.specs.Frames.{frame, FrameFails, TookFrame, WroteFront}
 use Rattle.iot_keep_app.specs.declared.fault.ServeFault.{ServeFault}
 use Rattle.iot_keep_app.specs.declared.fault.ServeFault.TheVariants.{NoMemory, Foreign, Damaged, Stopped, ReadFailed, Cut}
@@ -75,10 +79,16 @@ pub record EachKeeps (images : List ℕ → Type 0) (state : State) : Type 0 whe
   pub stands : EachStands images count state
 
 -- The bytes are a request for a commit that can follow, whose append the disk cut off: each image stands for the state before it, or for
--- the state with it.
+-- the state with it. Each encodes what was there, or a checkpoint of the state before alone; or such with the record of the commit.
 pub record IsInDoubt (images : List ℕ → Type 0) (before : Kept) (request : List ℕ) : Type 0 where
   pub count : ℕ
-  pub cut : CutsOff (IsMessage IsRequest request_spelling request) before.state count before.encoded images
+  pub label : Label
+  pub access : Access
+  pub lines : List (List ℕ)
+  pub asked : IsMessage IsRequest request_spelling request (Commit label access lines)
+  pub follows : CanFollow before.state label access
+  pub either : EachStandsEither images count before.state (after_commit before.state label access)
+  pub encodes : EachGoes rules images before.encoded before.state (record { label = label; access = access; lines = lines })
 
 -- What can be seen of serving: which bytes were taken from the source, and whether nothing is left there; which bytes were written to the
 -- sink; which images the disk has now.

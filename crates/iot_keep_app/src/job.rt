@@ -1,5 +1,5 @@
 //! Serving as one call.
-ghost use Rattle.std.specs.Prelude.{◌≡◌};
+ghost use Rattle.std.specs.Prelude.{◌≡◌, None};
 ghost use Rattle.std.specs.Io.KnownBytes.{Appends, IsAtEnd};
 ghost use Rattle.iot_disk.specs.Disk.{Only, SameImages};
 ghost use Rattle.iot_io.specs.ReadAll.{Took};
@@ -68,12 +68,24 @@ pub fn serve<D: Disk, S: Source, K: Sink>(
     match Server::start(alloc, disk) {
         Ok(mut server) => {
             let result = serve_all(alloc, &mut server, source, sink);
-            let disk = server.into_disk();
+            let disk = alone(server.into_disks());
             Outcome { result, disk }
         }
         Err((disk, fault)) => Outcome {
             result: Err(ServeFault::from(fault)),
             disk,
         },
+    }
+}
+
+/// The disk of a server that has no second one.
+fn alone<D: Disk>(disks: (D, Option<D>)) -> D
+    requires { disks.1 ≡ None }
+    ensures { result ≡ disks.0 }
+{
+    let (disk, backup) = disks;
+    match backup {
+        None => disk,
+        Some(_backup) => unreachable!(),
     }
 }

@@ -2,7 +2,7 @@
 ghost use Rattle.std.specs.Prelude.{◌≡◌, IfOk, OnOk};
 ghost use Rattle.std.specs.Io.KnownBytes.{Appends, IsAtEnd};
 ghost use Rattle.iot_io.specs.ReadAll.{Took};
-ghost use Rattle.iot_server.specs.Servers.{IsSynced, disk_of, state_of};
+ghost use Rattle.iot_server.specs.Servers.{IsAlone, IsSynced, disk_of, state_of};
 ghost use Rattle.iot_keep_app.specs.Serving.{AnswerEnds, EachKeeps, ServeEnds, StepEnds, kept_on};
 ghost use Rattle.iot_keep_app.specs.Status.{DiskCounts, SinkCounts, SourceCounts};
 
@@ -30,6 +30,7 @@ pub(crate) fn serve_all<D: Disk, S: Source, K: Sink>(
     sink: &mut K,
 ) -> Result<(), ServeFault>
     requires synced { IsSynced D.medium server.old }
+    requires alone { IsAlone server.old }
     requires keeps { EachKeeps (D.medium.may_leave (disk_of server.old)) (state_of server.old) }
     ensures ends { ServeEnds (record {
       took = Took S.left S.taken source.old source.new;
@@ -37,6 +38,7 @@ pub(crate) fn serve_all<D: Disk, S: Source, K: Sink>(
       wrote = Appends (K.written sink.old) (K.written sink.new);
       images = D.medium.may_leave (disk_of server.new);
     }) (kept_on D.medium server.old) result }
+    ensures alone { IsAlone server.new }
     ensures source_faults { SourceCounts result (record { before = S.faults source.old; after = S.faults source.new }) }
     ensures sink_faults { SinkCounts result
         (record { before = K.faults sink.old; after = K.faults sink.new })
@@ -62,6 +64,7 @@ fn serve_next<D: Disk, S: Source, K: Sink>(
     sink: &mut K,
 ) -> Result<Next, ServeFault>
     requires synced { IsSynced D.medium server.old }
+    requires alone { IsAlone server.old }
     requires keeps { EachKeeps (D.medium.may_leave (disk_of server.old)) (state_of server.old) }
     ensures ends { StepEnds (record {
       took = Took S.left S.taken source.old source.new;
@@ -70,6 +73,7 @@ fn serve_next<D: Disk, S: Source, K: Sink>(
       images = D.medium.may_leave (disk_of server.new);
     }) (kept_on D.medium server.old) (kept_on D.medium server.new) result }
     ensures synced { OnOk result (IsSynced D.medium server.new) }
+    ensures alone { IsAlone server.new }
     ensures source_faults { SourceCounts result (record { before = S.faults source.old; after = S.faults source.new }) }
     ensures sink_faults { SinkCounts result
         (record { before = K.faults sink.old; after = K.faults sink.new })
@@ -93,10 +97,12 @@ fn answer<D: Disk, K: Sink>(
     sink: &mut K,
 ) -> Result<(), ServeFault>
     requires synced { IsSynced D.medium server.old }
+    requires alone { IsAlone server.old }
     requires keeps { EachKeeps (D.medium.may_leave (disk_of server.old)) (state_of server.old) }
     ensures ends { AnswerEnds (Appends (K.written sink.old) (K.written sink.new)) (D.medium.may_leave (disk_of server.new))
         (kept_on D.medium server.old) request.now (kept_on D.medium server.new) result }
     ensures synced { OnOk result (IsSynced D.medium server.new) }
+    ensures alone { IsAlone server.new }
     ensures sink_faults { SinkCounts result
         (record { before = K.faults sink.old; after = K.faults sink.new })
         (record { before = K.empties sink.old; after = K.empties sink.new }) }

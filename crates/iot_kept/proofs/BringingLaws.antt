@@ -23,8 +23,9 @@ use Rattle.iot_changes.specs.Rules.{IsChange}
 use Rattle.iot_changes.specs.declared.changes.Change.{Change}
 use Rattle.iot_kept.specs.Bringing.{base_for, brought, brought_for, bringing}
 use Rattle.iot_kept.specs.Changes.{CanFollow, after}
+use Rattle.iot_kept.specs.Memory.{classes_after}
 use Rattle.iot_kept.specs.Spelled.{IsSpelledState}
-use Rattle.iot_kept.specs.States.{State}
+use Rattle.iot_kept.specs.States.{State, Transaction}
 use Rattle.iot_kept.specs.declared.bringing.Purpose.{Purpose}
 use Rattle.iot_kept.specs.declared.bringing.Purpose.TheVariants.{Hold, Fetch, Walk}
 use Rattle.iot_kept.proofs.SpelledLaws.{far_root_rows, numbers_spelled}
@@ -107,6 +108,18 @@ pub same_tree : (purpose : Purpose) (state now : State) (t u : Nodes) (change : 
 same_tree purpose state now t u change is made follows =
     sym is ∙ sym (brought_held purpose state t) ∙ ap (λ (ch : Change). (after state ch).held) (sym made)
     ∙ ap (λ (s : State). s.held) (sym follows)
+
+-- nor does it change a class
+brought_classes : (purpose : Purpose) (tree : Nodes) (running : List Transaction) (classes : List Bool) →
+    classes_after (brought_for purpose tree) running classes ≡ classes
+brought_classes Hold tree running classes = refl
+brought_classes (Fetch number) tree running classes = refl
+brought_classes Walk tree running classes = refl
+
+pub same_classes : (purpose : Purpose) (tree : Nodes) (change : Change) (running : List Transaction) (classes : List Bool) →
+    change ≡ brought_for purpose tree → classes_after change running classes ≡ classes
+same_classes purpose tree change running classes is =
+    ap (λ (ch : Change). classes_after ch running classes) is ∙ brought_classes purpose tree running classes
 
 -- ---- what is brought
 

@@ -40,4 +40,5 @@ module _ {D : Type 0} (medium : Medium D) (kept : Kept D) (synced : IsSynced med
   pub synced_stands : EachStands (medium.may_leave (disk_of kept)) (records_of kept) (state_of kept)
   synced_stands =
       let it = synced.checkpointed in
-      (idle_stays rules _ _ _ _ _ _ it.header_is it.slots.only it.slots.encodes (sym it.slots.layout.count) it.makes).stands
+      let first = it.disks.first in
+      (idle_stays rules _ _ _ _ _ _ it.header_is first.only first.encodes (sym first.layout.count) it.makes).stands

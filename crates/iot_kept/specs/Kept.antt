@@ -1,7 +1,7 @@
 -- What is kept of a client, over its disk.
 use Rattle.std.specs.Prelude.{◌≡◌, ℕ, Bool, List, Option, Some, None}
 use Rattle.iot_disk.specs.Disk.{Medium}
-use Rattle.iot_durable.specs.Durable as durable
+use Rattle.iot_durable.specs.Alone as durable
 use Rattle.iot_tree.specs.Tree.{Nodes}
 use Rattle.iot_stamp.specs.Stamps.{Stamps, nodes_of}
 use Rattle.iot_changes.specs.Spelling.{change_spelling}

@@ -30,6 +30,7 @@ use iot_changes::Change;
 use iot_disk::{Disk, JournalFault, Pick, StartFault};
 use iot_durable::Durable;
 use iot_queue::Queue;
+use iot_slots::Slots;
 use iot_text::{NoMemory, Text};
 use iot_tree::{Access, Known, Tree};
 use std::alloc::Global;
@@ -41,7 +42,7 @@ use std::alloc::Global;
 /// After an `Err` of `note`, or of `bring` other than `NoTree`, only `into_disk` says anything more: start again from the disk.
 #[derive(Drop)]
 pub struct Kept<D: Disk> {
-    pub(crate) checkpointed: Durable<Memory, D>,
+    pub(crate) checkpointed: Durable<Memory, Slots<D>>,
 
     /// The record that holds the held tree, if it was spelled since that last changed.
     pub(crate) held_record: Option<Text>,

@@ -10,6 +10,7 @@ use Rattle.iot_client.specs.Ties.{AreRuns, classes_in}
 use Rattle.iot_kept.specs.Rules.{header}
 use Rattle.iot_slots.specs.Decoding.{Decoded, NotStarted, decoded, state_of as encoded_in}
 use Rattle.iot_laptop.specs.Below.{IsTree, Transaction, Live, State, opening, second_class, live_of, IsTied}
+use Rattle.iot_disk.specs.Disk.{Storing}
 use Rattle.iot_laptop.specs.Below.{Client, Medium, At, Declared, ClientState}
 use Rattle.iot_laptop.specs.Below.{new_client, Node, unopened, Refines, Possibly, OpensNode, stopped_line, KeepsDisk}
 use Rattle.iot_laptop.specs.Below.{counts_on, IsEmpty, is_on, PostStands, CameIf, StepsTo, Post, Up, Down, Between}
@@ -22,7 +23,8 @@ use Rattle.iot_machine.specs.Nodes.{armed}
 use Rattle.iot_machine.specs.Stops.{ComesBack, Crashes, ArmsDisk}
 use Rattle.iot_machine.specs.Texts.{line, disconnect_line}
 use Rattle.iot_machine.proofs.PossiblyLaws.{comes_within, possibly_same, opens_states, crashes_within}
-use Rattle.iot_node.specs.Posts.{IsStanding}
+use Rattle.iot_node.specs.Posts.{IsStanding, Ready, words_of}
+use Rattle.iot_node.specs.declared.comeback.Comeback.TheVariants.{Restart}
 use Rattle.iot_machine.specs.Events.{CutsOff, RestartsClient, Disconnects, CrashesClient, ArmsClient}
 use Rattle.iot_link.specs.declared.passages.Passage.TheVariants.{Away, RequestLost, ReplyLost, Both}
 use Rattle.iot_node.proofs.StepsLaws.{does, refines}
@@ -299,6 +301,9 @@ module _ {D : Type 0} (medium : Medium D) (laptop : Laptop D) (new : IsUnopened 
     stands = rw new.down (new_node medium new.disk new.empty laptop.place);
   }
 
+  pub opens_ready : Ready medium laptop.post
+  opens_ready = rw new.down (refl, record { is = new.empty.synced.is })
+
   module _ (post : Post (Seated D) D) (x y : List ℕ) (on : Bool)
       (it : Refines (Posted medium laptop) (OpensNode laptop.name) laptop.post post x y on) where
     -- what was started knows nothing
@@ -362,7 +367,7 @@ pub record CameBack {D : Type 0} (medium : Medium D) (old : Laptop D) (post : Po
   pub is : is_on post ≡ on
   pub live : posts.live_of besides post ≡ (if on then Some none_besides else None)
   pub came : (node : Node ClientState) → Posted medium old old.post node
-      → CameIf (seating medium old.place) medium on old.post old.name x y node
+      → CameIf (seating medium old.place) medium on old.post (words_of Restart old.name) x y node
 
 module _ {D : Type 0} (medium : Medium D) (old : Laptop D) where
   -- one that is alive is left as it is
@@ -467,8 +472,8 @@ faults_then : (before between now : ℕ) → (between ≡ before) ⊎ Rose befor
     → (now ≡ between) ⊎ Rose between now → (now ≡ before) ⊎ Rose before now
 faults_then before between now one two = grind (arith, one, two)
 
-pub keeps_then : {D : Type 0} (medium : Medium D) (old between new : Option D) → KeepsDisk medium old between → KeepsDisk medium between new
-    → KeepsDisk medium old new
+pub keeps_then : {D I : Type 0} (medium : Storing D I) (old between new : Option D) → KeepsDisk medium old between
+    → KeepsDisk medium between new → KeepsDisk medium old new
 keeps_then medium old between new first second =
     let same : first.now ≡ second.was = same_Some first.now second.was (sym first.new_has ∙ second.old_has) in
     record {

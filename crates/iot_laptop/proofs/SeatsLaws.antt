@@ -1,6 +1,6 @@
 -- What a client is as the keeper of a node: how it starts, and what its disk holds.
 use Rattle.std.proofs.Common.{◌≡◌, ◌≤◌, ℕ, suc, Bool, true, false, cond, List, [], ◌∷◌, drop, length, Option, is_some, refl, sym, ap}
-use Rattle.std.proofs.Common.{subst, ◌∙◌}
+use Rattle.std.proofs.Common.{subst, ◌∙◌, inl, inr}
 use Rattle.std.proofs.Common.{arith}
 use Rattle.std.proofs.lemmas.List.{length-map}
 use Rattle.iot_client.specs.Ties.{AreFound, AreRuns, lives as lives_of}
@@ -15,10 +15,10 @@ use Rattle.iot_kept.proofs.SyncedLaws.{synced_stands}
 use Rattle.iot_kept.specs.Rules.{rules as kept_rules}
 use Rattle.iot_kept.specs.Standing.{EachStands, records_in}
 use Rattle.iot_laptop.specs.Below.{Medium, StandFor, StandWith, State, IsTied, state_of, place_of, disk_of, records_of, Client, ClientState}
-use Rattle.iot_laptop.specs.Below.{Seated, Live, live_of, stamps_of, counts_on}
+use Rattle.iot_laptop.specs.Below.{Seated, Live, live_of, next, stamps_of, counts_on}
 use Rattle.iot_node.proofs.PostsLaws.{same_counts}
 use Rattle.iot_disk.specs.declared.faults.StartFault.{StartFault}
-use Rattle.iot_node.specs.Keeping.{EachIs, Comes, Fails, CountsStart}
+use Rattle.iot_node.specs.Keeping.{EachIs, CanStart, HoldSame, Comes, Fails, CountsStart}
 use Rattle.iot_disk.specs.declared.faults.StartFault.TheVariants as faults
 use Rattle.iot_standing.specs.Kept.{RunKept, StateKept}
 use Rattle.iot_stamp.specs.Stamps.{unstamped}
@@ -127,6 +127,15 @@ module _ {D : Type 0} (medium : Medium D) where
     seat_fresh it found stamps =
         (λ i. record { begun = found_none (live_of it) found i; lent = (ap lent_stamps stamps ∙ none_lent (state_of it).held) i })
 
+    -- images that stand for what the disk stood for hold the same
+    hold_same : (place : ℕ) (images : List ℕ → Type 0)
+        → ((state : State) → StandFor (medium.reads disk) state → EachStands images (records_in (medium.reads disk)) state)
+        → HoldSame (seating medium place) (medium.reads disk) images
+    hold_same place images stand = record {
+      stand = λ count m is. same_images images (medium.reads disk) count m stand is;
+      turn = λ count m after is. same_images images (medium.reads disk) (next count) after stand is;
+    }
+
     pub seat_comes : (place : ℕ) (it : Client D) → ((state : State) → StandFor (medium.reads disk) state → state_of it ≡ state)
         → StandWith (medium.reads disk) (records_of it) (state_of it) → IsTied medium it → place_of it ≡ place
         → ((state : State) → StandFor (medium.reads disk) state
@@ -134,15 +143,20 @@ module _ {D : Type 0} (medium : Medium D) where
         → medium.faults (disk_of it) ≡ medium.faults disk → medium.arms (disk_of it) ≡ medium.arms disk
         → Comes (seating medium place) medium disk (record { client = it })
     seat_comes place it only stands tied place_is images steady arms = record {
-      from = λ count m is. record {
-        place_is = place_is;
-        tied = tied;
-        counted = sym stands.counted ∙ is.stands.counted;
-        kept = subst (λ (state : State). StateKept state m) (sym (only is.state is.stands.stands)) is.kept;
-      };
-      images = λ count m is. same_images (medium.may_leave (disk_of it)) (medium.reads disk) count m images is;
+      from = from;
+      turned = λ count m after is. from (next count) after is;
+      images = hold_same place (medium.may_leave (disk_of it)) images;
       counts = same_counts medium disk (disk_of it) steady arms;
     }
+      where
+        from : (count : ℕ) (m : ClientState) → IsClientImage (medium.reads disk) count m
+            → IsSeated medium place (record { client = it }) count m
+        from count m is = record {
+          place_is = place_is;
+          tied = tied;
+          counted = sym stands.counted ∙ is.stands.counted;
+          kept = subst (λ (state : State). StateKept state m) (sym (only is.state is.stands.stands)) is.kept;
+        }
 
     counts_by : (fault : StartFault) (left : D) → causes.TakesBytes fault
         → causes.HasCause kept_rules fault (medium.reads disk) (medium.faults disk) (medium.faults left)
@@ -151,13 +165,22 @@ module _ {D : Type 0} (medium : Medium D) where
     counts_by faults.Stopped left takes cause arms = record { faults = cause; arms = arms }
     counts_by other left takes cause arms = absurd takes
 
-    pub seat_fails : (place : ℕ) (fault : StartFault) (left : D)
+    -- it stands for some state
+    stands_for : (place : ℕ) → CanStart (seating medium place) (medium.reads disk) → (state : State) × StandFor (medium.reads disk) state
+    stands_for place can = elim can.either [
+      | inl is ↦ (is.state, is.stands.stands)
+      | inr is ↦ (is.state, is.stands.stands)
+    ]
+
+    pub seat_fails : (place : ℕ) (fault : StartFault) (left : D) → CanStart (seating medium place) (medium.reads disk)
         → ((state : State) → StandFor (medium.reads disk) state → causes.TakesBytes fault)
         → causes.HasCause kept_rules fault (medium.reads disk) (medium.faults disk) (medium.faults left)
         → ((state : State) → StandFor (medium.reads disk) state
         → EachStands (medium.may_leave left) (records_in (medium.reads disk)) state) → medium.arms left ≡ medium.arms disk
         → Fails (seating medium place) medium disk left fault
-    seat_fails place fault left never cause images arms = record {
-      images = λ count m is. same_images (medium.may_leave left) (medium.reads disk) count m images is;
-      counts = λ count m is. counts_by fault left (never is.state is.stands.stands) cause arms;
-    }
+    seat_fails place fault left can never cause images arms =
+        let here = stands_for place can in
+        record {
+          images = hold_same place (medium.may_leave left) images;
+          counts = counts_by fault left (never here.0 here.1) cause arms;
+        }

@@ -6,6 +6,8 @@ use Rattle.iot_tree.specs.declared.access.Access.{Access}
 use Rattle.iot_laptop.specs.Below.{reads_of, Nodes, State, Act, Read, Item, Stage, Transaction, IsRefresh, records_of, ClientFault, Step}
 use Rattle.iot_laptop.specs.Below.{Medium, Declared, ClientState, so_far, act_once, repair, reach, Plan, resolution_of, Acts}
 use Rattle.iot_laptop.specs.Below.{next_step, transaction_name, acts_output, stopped_line, no_text, Node, Appends, Appended, CameIf}
+use Rattle.iot_laptop.specs.Below.{words_of}
+use Rattle.iot_node.specs.declared.comeback.Comeback.TheVariants.{Restart}
 use Rattle.iot_laptop.specs.Below.{Answered, StepsFrom, PostStands, UpStands, Up, Halt, NoMemory, Over, Try, name_of, SpellsVerdict, Laptop}
 use Rattle.iot_laptop.specs.Below.{Gone, Seated, Spells, Stamps, brought, nothing_held}
 use Rattle.iot_tree.specs.declared.changes.Changes.{Changes as RowChanges}
@@ -311,7 +313,7 @@ pub record Came {D : Type 0} (medium : Medium D) (old : Laptop D) (x y : List �
   pub on : Bool
   pub mid : List ℕ
   pub rest : List ℕ
-  pub came : CameIf (seating medium old.place) medium on old.post old.name x mid m.node
+  pub came : CameIf (seating medium old.place) medium on old.post (words_of Restart old.name) x mid m.node
   pub whole : y ≡ mid ++ rest
   pub stopped : on ≡ false → y ≡ x ++ stopped_line old.name
 

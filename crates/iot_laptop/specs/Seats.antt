@@ -1,7 +1,7 @@
 -- For which state of the machine a client stands as the keeper of a node, and the bytes of a disk.
 use Rattle.std.specs.Prelude.{◌≡◌, ℕ, List, [], Option, None, filter, is_some}
 use Rattle.iot_laptop.specs.Below.{Live, state_of, place_of, disk_of, records_of, live_of, stamps_of, Stamps, IsTied, Medium, State}
-use Rattle.iot_laptop.specs.Below.{StandWith, ClientState, Keeping, Seated}
+use Rattle.iot_laptop.specs.Below.{StandWith, ClientState, Keeping, Seated, next}
 use Rattle.iot_standing.specs.Kept.{StateKept}
 use Rattle.iot_stamp.specs.Trails.{lent_stamps}
 
@@ -18,10 +18,12 @@ pub record IsClientImage (image : List ℕ) (count : ℕ) (m : ClientState) : Ty
   pub stands : StandWith image count state
   pub kept : StateKept state m
 
-abbrev pub seating : {D : Type 0} → Medium D → (place : ℕ) → Keeping (Seated D) ClientState D
+-- In the midst of a record its one disk has the record already.
+abbrev pub seating : {D : Type 0} → Medium D → (place : ℕ) → Keeping (Seated D) ClientState D (List ℕ)
 seating medium place = record {
   stands = IsSeated medium place;
   image = IsClientImage;
+  turning = λ image count before after. IsClientImage image (next count) after;
   disk = λ seated. disk_of seated.client;
 }
 

@@ -8,7 +8,7 @@ use crate::laptop::Laptop;
 use crate::texts::{say_cut, say_lose, say_named};
 use iot_disk::{Disk, Pick};
 use iot_link::Loss;
-use iot_node::{Halt, Post, say};
+use iot_node::{Comeback, Halt, Post, say};
 use iot_text::{NoMemory, Text};
 use std::alloc::Global;
 
@@ -104,10 +104,13 @@ impl<D: Disk> Laptop<D> {
             say(b"up", out)?;
             return Ok(());
         }
-        if !self
-            .post
-            .come_back(alloc, self.place, self.name.as_bytes(), out)?
-        {
+        if !self.post.come_back(
+            alloc,
+            Comeback::Restart,
+            self.place,
+            self.name.as_bytes(),
+            out,
+        )? {
             return Ok(());
         }
         self.cut_off(alloc, out)

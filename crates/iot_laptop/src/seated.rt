@@ -11,10 +11,15 @@ pub struct Seated<D: Disk> {
 }
 
 impl<D: Disk> Keeper<D> for Seated<D> {
+    ghost use Rattle.std.specs.Prelude.{ℕ, List};
     ghost use Rattle.iot_laptop.specs.Below.{ClientState};
     ghost use Rattle.iot_laptop.specs.Seats.{Besides, seating, besides, none_besides};
 
     ghost Kept = { ClientState };
+
+    ghost Image = { List ℕ };
+
+    ghost medium = { D.medium };
 
     ghost keeping = { seating D.medium };
 
@@ -24,6 +29,10 @@ impl<D: Disk> Keeper<D> for Seated<D> {
     ghost live = { besides };
 
     ghost fresh = { none_besides };
+
+    ghost Beside = { Unit {0} };
+
+    ghost beside = { λ disk. tt };
 
     fn start(alloc: Global, disk: D, place: u64) -> Result<Self, (D, StartFault)> {
         match Client::start(alloc, disk, place) {
@@ -43,4 +52,14 @@ impl<D: Disk> Keeper<D> for Seated<D> {
     fn into_disk(self) -> D {
         self.client.into_disk()
     }
+
+    fn restart(disk: &mut D) {
+        disk.restart();
+    }
+
+    fn arm_down(disk: &mut D, calls: u64, pick: Pick) {
+        disk.arm(calls, pick);
+    }
+
+    ghost reads_is_image = { D.reads_is_image };
 }

@@ -1,6 +1,6 @@
 -- What is said of a commit is so, and stays so.
 use Rattle.std.proofs.Common.{◌≡◌, ◌⊎◌, ℕ, ◌+◌, Bool, true, false, List, [], ◌∷◌, ◌++◌, length, drop, Option, Some, None, inl, inr}
-use Rattle.std.proofs.Common.{refl, sym, ap, subst, ◌∙◌, slice_index_or, position, option_map, arith, suc, codes, unwrap_or}
+use Rattle.std.proofs.Common.{refl, sym, ap, subst, ◌∙◌, slice_index_or, position, option_map, arith, suc, unwrap_or}
 use Rattle.std.proofs.Math.Seq.{drop-append_seam}
 use Rattle.std.proofs.lemmas.Bool.{cond-true, cond-false, cases_Bool, eq-eqb}
 use Rattle.std.proofs.lemmas.Iterator.Adapters.{position_from-zero}
@@ -13,8 +13,8 @@ use Rattle.iot_machine.specs.Nodes as nodes
 use Rattle.iot_machine.specs.Nodes.{Node}
 use Rattle.iot_machine.specs.Serving.{Submission, Verdict, Settled, Conflict, Judges, judged, Certifies, holds, conflicts, committed}
 use Rattle.iot_machine.specs.Serving.{is_of, number_of, commit_text, kept_text, added_text, server_name}
-use Rattle.iot_machine.specs.Stops.{Appends, ComesBackWith}
-use Rattle.iot_machine.specs.Texts.{line, stopped_line, kept_line, lost_line, transaction_name}
+use Rattle.iot_machine.specs.Stops.{Appends, SettlesAs}
+use Rattle.iot_machine.specs.Texts.{line, stopped_line, kept_as, lost_as, transaction_name}
 use Rattle.iot_machine.specs.Transactions.{Exchange, submits}
 use Rattle.iot_machine.proofs.KeepsLaws.{Keeps, IfGoes, keeps_gets, keeps_asks, keeps_then}
 use Rattle.iot_machine.proofs.PossiblyLaws.{possibly_as}
@@ -77,16 +77,16 @@ a_commit_is_said name commit node n text verdict step =
     )
 
 pub a_kept_commit_is_said : AKeptCommitIsSaid
-a_kept_commit_is_said names node n text growing (inr stopped) = absurd cc
-a_kept_commit_is_said names node n text growing (inl settles) = by_doubt node.doubt growing.adds settles.1
+a_kept_commit_is_said words names node n text growing (inr stopped) = absurd cc
+a_kept_commit_is_said words names node n text growing (inl settles) = by_doubt node.doubt growing.adds settles.1
   where
     back : {list : List Commit} → n ≡ nodes.back list node → n.durable ≡ list
     back is = ap (λ (node : Node (List Commit)). node.durable) is
 
     by_doubt : (doubt : Option (List Commit)) → IfSome doubt (AddsOne node.durable)
-        → ComesBackWith server_name (kept_text names) doubt node text n
-        → IsSaidKept node.durable text n.durable
-        ⊎ (((text ≡ line (codes "restart " ++ server_name)) ⊎ (text ≡ lost_line server_name)) × (n.durable ≡ node.durable))
+        → SettlesAs words (kept_text names) doubt node text n
+        → IsSaidKept words node.durable text n.durable
+        ⊎ (((text ≡ line words) ⊎ (text ≡ lost_as words)) × (n.durable ≡ node.durable))
     by_doubt None one step = inr (inl step.0, back step.1)
     by_doubt (Some after) one (inr step) = inr (inr step.0, back step.1)
     by_doubt (Some after) one (inl step) =
@@ -103,7 +103,7 @@ a_kept_commit_is_said names node n text growing (inl settles) = by_doubt node.do
             adds = adds;
             stands = subst (StandsAt (length node.durable) one.commit) (sym adds) (at_end node.durable one.commit);
           };
-          whole = step.0 ∙ ap (λ (list : List Commit). kept_line server_name ++ added_text names node.durable list) more;
+          whole = step.0 ∙ ap (λ (list : List Commit). kept_as words ++ added_text names node.durable list) more;
         })
 
 -- ---- what a client hears

@@ -7,7 +7,8 @@ use Rattle.iot_machine.specs.Machine.{Commit, add_commit}
 use Rattle.iot_machine.specs.Nodes.{Node}
 use Rattle.iot_machine.specs.Serving.{Submission, Verdict, Judges, judged, Certifies, holds, conflicts, Commits, committed, server_name}
 use Rattle.iot_machine.specs.Sound.{Possibly}
-use Rattle.iot_machine.specs.Stops.{OpensNode, Appends, ComesBackWith, ComesBack, Crashes, Restarts}
+use Rattle.iot_machine.specs.Stops.{OpensNode, Appends, SettlesAs, ComesBackAs, Crashes, Restarts}
+use Rattle.iot_machine.specs.Texts.{restart_words}
 use Rattle.iot_machine.proofs.KeepsLaws.{Keeps, Stays, keeps_gets, keeps_does, stays_asks, stays_answers, stays_says}
 use Rattle.iot_machine.proofs.KeepsLaws.{keeps_then, stays_then, asks_then, keeps_either}
 use Rattle.iot_lasting.specs.Lasting.{IsFront, AddsOne, StandsAt, IsGrowing, Lasts}
@@ -108,22 +109,23 @@ module _ (b : Node (List Commit)) where
       by_number (Some number) = keeps_gets (λ node here. here.0)
       by_number None = record { at = certifies }
 
-  comes_last : (name : List ℕ) (says : List Commit → List Commit → List ℕ) → Stays (Lasts b) (ComesBack name says)
-  comes_last name says = record { at = by_step }
+  pub comes_last : (words name : List ℕ) (says : List Commit → List Commit → List ℕ) → Stays (Lasts b) (ComesBackAs words name says)
+  comes_last words name says = record { at = by_step }
     where
       settles : (node n : Node (List Commit)) (text : List ℕ) (doubt : Option (List Commit)) → IfSome doubt (AddsOne node.durable)
-          → Lasts b node → ComesBackWith name says doubt node text n → Lasts b n
+          → Lasts b node → SettlesAs words says doubt node text n → Lasts b n
       settles node n text None adds here step = rw step.1 (lasts_sure b _ refl here.front)
       settles node n text (Some after) adds here (inl step) = rw step.1
           (lasts_sure b _ refl (front_on b.durable node.durable after here.front (front_adds node.durable after adds)))
       settles node n text (Some after) adds here (inr step) = rw step.1 (lasts_sure b _ refl here.front)
 
-      by_step : (node n : Node (List Commit)) (text : List ℕ) (on : Bool) → Lasts b node → ComesBack name says node text on n → Lasts b n
+      by_step : (node n : Node (List Commit)) (text : List ℕ) (on : Bool) → Lasts b node → ComesBackAs words name says node text on n
+          → Lasts b n
       by_step node n text on here (inl step) = settles node n text node.doubt here.growing.adds here step.1
       by_step node n text on here (inr step) = rw step.2.is (lasts_same b node _ refl refl (λ up. up) here)
 
   pub restarts_last : (name : List ℕ) (says : List Commit → List Commit → List ℕ) → Stays (Lasts b) (Restarts name says)
-  restarts_last name says = asks_then (keeps_either stays_says (stays_then (comes_last name says) (λ _. stays_says)))
+  restarts_last name says = asks_then (keeps_either stays_says (stays_then (comes_last (restart_words name) name says) (λ _. stays_says)))
 
   pub crashes_last : (name : List ℕ) → Stays (Lasts b) (Crashes name)
   crashes_last name =

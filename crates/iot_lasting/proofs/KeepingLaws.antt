@@ -1,5 +1,6 @@
 -- The machine's calls keep what the server's list begins with.
-use Rattle.std.proofs.Common.{ℕ, ◌*◌, Bool, true, false, List, [], ◌∷◌, Option, Some, None, codes, sym, subst}
+use Rattle.std.proofs.Common.{ℕ, ◌*◌, Bool, true, false, List, [], ◌∷◌, Option, Some, None, codes, refl, sym, subst}
+use Rattle.iot_disk.specs.declared.disk.Pick.{Pick}
 use Rattle.iot_tree.specs.Tree.{Nodes, Path}
 use Rattle.iot_tree.specs.Profiles.{Profile}
 use Rattle.iot_tree.specs.declared.want.Want.TheVariants as wanted
@@ -11,7 +12,8 @@ use Rattle.iot_machine.specs.Clients as stages
 use Rattle.iot_machine.specs.Clients.{Declared, Stage, Item, Running, ClientState, Next, AtEnd, AtLimit}
 use Rattle.iot_machine.specs.Clients.{Acts, Fetches, Plan, new_client}
 use Rattle.iot_machine.specs.Machine.{Machine, Commit, Client, Pair, its_server, server, client_at, pair_at, script_at}
-use Rattle.iot_machine.specs.Nodes.{Node}
+use Rattle.iot_machine.specs.Machine.{give_up, arm_backup}
+use Rattle.iot_machine.specs.Nodes.{Node, armed, arming_as}
 use Rattle.iot_machine.specs.Options as options
 use Rattle.iot_machine.specs.Options.{OnConflict}
 use Rattle.iot_machine.specs.Serving.{Submission, Verdict, Settled, Conflict, Errand, Lends, Judges, server_name, kept_text}
@@ -25,12 +27,14 @@ use Rattle.iot_machine.specs.Transactions.{moves, sync_if, SyncsAll, is_manual, 
 use Rattle.iot_machine.specs.Transactions.{joins, Compared, Same, Differs, Compares, same, parts, ends_by, certifies, end_by, Ends}
 use Rattle.iot_machine.specs.Events.{Walks, Declares, Hoards, Refreshes, BeginsAloud, StepsAloud, run_steps, runs_through, Runs, Drains, Repairs}
 use Rattle.iot_machine.specs.Events.{Discards, chosen, task_part, says_reads, ReadsOf, IfUp, OfClient, counts_anew, RestartsServer}
+use Rattle.iot_machine.specs.Events.{promotes_unless, Promotes, ArmsBackup}
+use Rattle.iot_machine.specs.Texts.{promote_words}
 use Rattle.iot_machine.proofs.KeepsLaws.{Keeps, Stays as KeepsOn, IfGoes, keeps_gets, keeps_does, keeps_tells, stays_says, keeps_then}
 use Rattle.iot_machine.proofs.KeepsLaws.{stays_then, asks_then, keeps_either, stays_goes_on, keeps_goes, keeps_repeats, keeps_whole}
 use Rattle.iot_machine.proofs.KeepsLaws.{keeps_or_says}
 use Rattle.iot_machine.proofs.PairLaws.{Passes, Reached, exchange_keeps}
 use Rattle.iot_lasting.specs.Lasting.{Lasts}
-use Rattle.iot_lasting.proofs.FrontLaws.{LastsUp, judges_last, restarts_last}
+use Rattle.iot_lasting.proofs.FrontLaws.{LastsUp, lasts_same, judges_last, comes_last, restarts_last}
 
 module _ (b : Node (List Commit)) where
   -- ---- a client with the server
@@ -317,6 +321,25 @@ module _ (b : Node (List Commit)) where
       counts : (alive : Bool) (m : Machine) → KeptIn m → KeptIn (counts_anew alive m)
       counts true m here = here
       counts false m here = here
+
+  -- a promotion of its backup, whether it goes well or stops
+  pub promotes : KeepingIn Promotes
+  promotes = asks_then (keeps_either stays_says (asks_then unless))
+    where
+      gives_up : (m : Machine) → KeptIn m → KeptIn (give_up m)
+      gives_up m here = lasts_same b m.server (arming_as m.beside m.server) refl refl (λ up. up) here
+
+      unless : (promoted : Bool) → KeepingIn (promotes_unless promoted)
+      unless true = stays_says
+      unless false = stays_then (keeps_does gives_up) (λ _. asks_then (λ names.
+          stays_then (at_server (comes_last b promote_words server_name (kept_text names))) (λ _. keeps_does (λ m here. here))))
+
+  pub arms_backup : (calls : ℕ) (pick : Pick) → KeepingIn (ArmsBackup calls pick)
+  arms_backup calls pick = keeps_does (λ m here. arms m.promoted m here)
+    where
+      arms : (promoted : Bool) (m : Machine) → KeptIn m → KeptIn (arm_backup calls pick promoted m)
+      arms true m here = lasts_same b m.server (armed calls pick m.server) refl refl (λ up. up) here
+      arms false m here = here
 
   pub declares : (name : List ℕ) → KeepingIn (Declares name)
   declares name = keeps_then {Q = λ _. KeptIn} (keeps_gets (λ m here. here)) (λ c. stays_then alone (stays_goes_on stays_says))

@@ -19,7 +19,8 @@ use Rattle.iot_machine.proofs.PossiblyLaws.{possibly_as}
 use Rattle.iot_lasting.specs.Lasting.{IsGrowing, EventKeepsCommits, TranscriptsSplit, TranscriptsGrow, CommitsLast, CommitsKeepTheirNumbers}
 use Rattle.iot_tree.specs.Profiles.{Profile}
 use Rattle.iot_lasting.proofs.FrontLaws.{stands_on, possibly_front, lasts_itself, lasts_same, crashes_last, opens_last}
-use Rattle.iot_lasting.proofs.KeepingLaws.{KeptIn, KeepingIn, does_task, of_client, alone, at_server, restarts_server, declares}
+use Rattle.iot_lasting.proofs.KeepingLaws.{KeptIn, KeepingIn, does_task, of_client, alone, at_server, restarts_server, promotes}
+use Rattle.iot_lasting.proofs.KeepingLaws.{arms_backup, declares}
 
 -- ---- the events
 
@@ -41,6 +42,8 @@ module _ (b : Node (List Commit)) where
   event_keeping (events.Profile name profile) = stays_says
   event_keeping (events.At c what) = asks_then (λ scripts. client_keeping scripts c what)
   event_keeping (events.Server what) = server_keeping what
+  event_keeping events.Promote = promotes b
+  event_keeping (events.StopBackup calls pick) = arms_backup b calls pick
   event_keeping events.Log = asks_then (keeps_either stays_says stays_says)
 
   pub list_keeping : (events : List Event) → KeepingIn b (InTurn events)

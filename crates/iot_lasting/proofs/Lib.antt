@@ -6,3 +6,4 @@ pub mod LedgerLaws
 pub mod TellsLaws
 pub mod TellingLaws
 pub mod ToldLaws
+pub mod PromotingLaws

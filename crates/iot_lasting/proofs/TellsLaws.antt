@@ -7,8 +7,8 @@ use Rattle.iot_tree.specs.Tree.{Nodes}
 use Rattle.iot_machine.specs.Calls.{Call, Try, Gets, Asks, Answers, Does, Says, Nothing, Tells, Then, either, unless_over}
 use Rattle.iot_machine.specs.Calls.{Goes, Repeats, Whole, or_text, OrSays}
 use Rattle.iot_machine.specs.Nodes.{Node, doubting, back}
-use Rattle.iot_machine.specs.Stops.{IsStopped, OpensNode, Appends, ComesBackWith, ComesBack, Crashes, ArmsDisk, Shows}
-use Rattle.iot_machine.specs.Texts.{line, stopped_line, kept_line, lost_line, stop_line, tree_text}
+use Rattle.iot_machine.specs.Stops.{IsStopped, OpensNode, Appends, SettlesAs, ComesBack, Crashes, ArmsDisk, Shows}
+use Rattle.iot_machine.specs.Texts.{line, stopped_line, restart_words, kept_line, lost_line, stop_line, tree_text}
 use Rattle.iot_lasting.specs.Ledger.{Ledger, IsNode}
 use Rattle.iot_lasting.specs.Sayings as forms
 use Rattle.iot_lasting.specs.Sayings.{IsAmong, answer_words, node_words}
@@ -182,7 +182,7 @@ module _ {S : Type 0} (name : List ℕ) (tell : S → ℕ → Ledger) (named : (
         back_told : (s : S) → n ≡ back s node → Told (book_of node) text (book_of node) → Told (book_of node) text (book_of n)
         back_told s is it = rw is (subst (λ (k : Ledger). Told (book_of node) text k) (sym (same node.durable s node.stops)) it)
 
-        settles : (doubt : Option S) → ComesBackWith name says doubt node text n → Told (book_of node) text (book_of n)
+        settles : (doubt : Option S) → SettlesAs (restart_words name) says doubt node text n → Told (book_of node) text (book_of n)
         settles None step = back_told node.durable step.1 (rw step.0 (word_told node (codes "restart ") (among 1 refl)))
         settles (Some after) (inl step) = back_told after step.1
             (rw (step.0 ∙ ap (λ (said : List ℕ). kept_line name ++ said) (nothing node.durable after) ∙ append-nil (kept_line name))

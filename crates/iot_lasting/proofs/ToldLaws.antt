@@ -10,30 +10,32 @@ use Rattle.iot_event.specs.declared.event.Event.TheVariants as events
 use Rattle.iot_event.specs.declared.event.NodeEvent.{NodeEvent}
 use Rattle.iot_event.specs.declared.event.NodeEvent.TheVariants as nodes
 use Rattle.iot_disk.specs.declared.disk.Pick.{Pick}
-use Rattle.iot_machine.specs.Calls.{Call, At}
+use Rattle.iot_machine.specs.Calls.{Call, Asks, Does, Says, Then, At}
 use Rattle.iot_machine.specs.Clients.{Declared}
 use Rattle.iot_machine.specs.Machine.{Machine, Client, Commit, Pair, handed, server, node, client_in, client_at}
-use Rattle.iot_machine.specs.Machine.{pair_at, tree_after, add_commit}
+use Rattle.iot_machine.specs.Machine.{pair_at, tree_after, add_commit, give_up, arm_backup}
 use Rattle.iot_machine.specs.Nodes.{Node}
 use Rattle.iot_machine.specs.Nodes as nodes_of
 use Rattle.iot_tree.specs.Profiles.{Profile}
-use Rattle.iot_machine.specs.Serving.{server_name, commit_text, kept_text}
-use Rattle.iot_machine.specs.Stops.{OpensNode, ComesBackWith, ComesBack, Crashes, Restarts, ArmsDisk, Shows}
-use Rattle.iot_machine.specs.Texts.{transaction_name, stopped_line, kept_line, client_line, tree_text, log_text}
+use Rattle.iot_machine.specs.Serving.{server_name, backup_name, commit_text, kept_text}
+use Rattle.iot_machine.specs.Stops.{OpensNode, SettlesAs, ComesBackAs, Crashes, Restarts, ArmsDisk, Shows}
+use Rattle.iot_machine.specs.Texts.{line, transaction_name, stopped_line, restart_words, promote_words, kept_as, lost_as, stop_line}
+use Rattle.iot_machine.specs.Texts.{client_line, tree_text, log_text}
 use Rattle.iot_machine.specs.Recorded.{labels_of}
 use Rattle.iot_machine.specs.Events.{client_of, add_client, names_in, counts_anew, RestartsServer, Declares, client_part, server_part}
-use Rattle.iot_machine.specs.Events.{event_part}
+use Rattle.iot_machine.specs.Events.{promotes_unless, Promotes, ArmsBackup, event_part}
 use Rattle.iot_machine.specs.Transcript.{Opening, InTurn}
 use Rattle.iot_machine.proofs.KeptLaws.{kept_added, name_at}
 use Rattle.iot_machine.proofs.MachinesLaws.{added_at}
 use Rattle.iot_lasting.specs.Lasting.{AddsOne, IsGrowing}
 use Rattle.iot_lasting.specs.Ledger.{Row, Ledger, row_of, ledger_of, row_at, names_of, IsNode}
 use Rattle.iot_lasting.specs.Sayings as forms
+use Rattle.iot_lasting.specs.Sayings.{IsAmong, answer_words}
 use Rattle.iot_lasting.specs.Telling.{CommitSaid, Joins, name_of, stop_lines, stops_of, Accounts, EventTells, TranscriptTells}
 use Rattle.iot_lasting.proofs.LedgerLaws.{Told, told_then, told_nothing, told_piece, told_other, rows_set, rows_itself, rows_at, rows_push}
 use Rattle.iot_lasting.proofs.LedgerLaws.{name_set, rows_names, server_stops, stops_in, stops_noted, commits_noted}
 use Rattle.iot_lasting.proofs.TellsLaws.{TellsTo, Telling, told_from, asks_told, does_told, says_told, silent, then_told, asks_then}
-use Rattle.iot_lasting.proofs.TellsLaws.{either_told, among, told_word, stops_now, word_told, kept_told, lost_told, opens_told}
+use Rattle.iot_lasting.proofs.TellsLaws.{either_told, among, told_word, stops_now, opens_told}
 use Rattle.iot_lasting.proofs.TellsLaws.{arms_told, crashes_told, shows_told}
 use Rattle.iot_lasting.proofs.TellingLaws.{server_book, IsHere, client_book, on_node, opens_node, does_link, does_node, AtPlace, pair_book}
 use Rattle.iot_lasting.proofs.TellingLaws.{if_up}
@@ -100,6 +102,29 @@ at_server each = record {
 
 -- ---- the server
 
+-- the lines of an event with these words at which it comes back are no stop lines and no commits
+record AreOther (words : List ℕ) : Type 0 where
+  back : (l : Ledger) → Told l (line words) l
+  kept : (l : Ledger) → Told l (kept_as words) l
+  lost : (l : Ledger) → Told l (lost_as words) l
+
+by_restart : AreOther (restart_words server_name)
+by_restart = record {
+  back = λ l. told_other l _ (forms.of_node (codes "restart ") server_name (among 1 refl) (is_there l) refl);
+  kept = λ l. told_other l _ (forms.kept server_name (is_there l) refl);
+  lost = λ l. told_other l _ (forms.lost server_name (is_there l) refl);
+}
+  where
+    is_there : (l : Ledger) → IsNode l server_name
+    is_there l = record { who = None; is = refl }
+
+by_promote : AreOther promote_words
+by_promote = record {
+  back = λ l. told_word l (codes "promote") (among 9 refl);
+  kept = λ l. told_word l (codes "promote kept") (among 10 refl);
+  lost = λ l. told_word l (codes "promote lost") (among 11 refl);
+}
+
 module _ (rows : List Row) where
   abbrev tell : List Commit → ℕ → Ledger
   tell commits k = record { stops = k; clients = rows; commits = commits }
@@ -131,9 +156,9 @@ module _ (rows : List Row) where
   abbrev IsNames : List (List ℕ) → Type 0
   IsNames names = (c : ℕ) → slice_index_or names c [] ≡ (row_at rows c).name
 
-  comes : (names : List (List ℕ)) → IsNames names
-      → TellsTo (server_book rows) IsGrowing (ComesBack server_name (kept_text names)) (λ _. Any)
-  comes names are = record { at = λ node n text on growing step. (by_step node n text on growing step, tt) }
+  comes : (words : List ℕ) → AreOther words → (names : List (List ℕ)) → IsNames names
+      → TellsTo (server_book rows) IsGrowing (ComesBackAs words server_name (kept_text names)) (λ _. Any)
+  comes words said names are = record { at = λ node n text on growing step. (by_step node n text on growing step, tt) }
     where
       says : (node : Node (List Commit)) (commit : Commit)
           → kept_text names node.durable (add_commit commit node.durable)
@@ -142,18 +167,17 @@ module _ (rows : List Row) where
           ∙ ap (λ (name : List ℕ). commit_text (transaction_name name commit.entry.number) commit node.durable) (are commit.entry.client)
 
       settles : (node n : Node (List Commit)) (text : List ℕ) (doubt : Option (List Commit)) → IfSome doubt (AddsOne node.durable)
-          → ComesBackWith server_name (kept_text names) doubt node text n → Told (server_book rows node) text (server_book rows n)
-      settles node n text None one step =
-          rw (step.0, step.1) (word_told server_name tell is_server stopping node (codes "restart ") (among 1 refl))
-      settles node n text (Some after) one (inr step) = rw (step.0, step.1) (lost_told server_name tell is_server stopping node)
+          → SettlesAs words (kept_text names) doubt node text n → Told (server_book rows node) text (server_book rows n)
+      settles node n text None one step = rw (step.0, step.1) (said.back (server_book rows node))
+      settles node n text (Some after) one (inr step) = rw (step.0, step.1) (said.lost (server_book rows node))
       settles node n text (Some after) one (inl step) = rw step.1
           (told_then (server_book rows node) (server_book rows node) (server_book rows (nodes_of.back after node))
-          (kept_line server_name) (kept_text names node.durable after) text step.0
-          (kept_told server_name tell is_server stopping node)
+          (kept_as words) (kept_text names node.durable after) text step.0
+          (said.kept (server_book rows node))
           (rw (one.is, says node one.commit) (told_piece (server_book rows node) (CommitSaid one.commit) tt)))
 
       by_step : (node n : Node (List Commit)) (text : List ℕ) (on : Bool) → IsGrowing node
-          → ComesBack server_name (kept_text names) node text on n → Told (server_book rows node) text (server_book rows n)
+          → ComesBackAs words server_name (kept_text names) node text on n → Told (server_book rows node) text (server_book rows n)
       by_step node n text on growing (inl step) = settles node n text node.doubt growing.adds step.1
       by_step node n text on growing (inr step) = rw step.0 (stops_now server_name tell is_server stopping node n step.2)
 
@@ -161,12 +185,16 @@ module _ (rows : List Row) where
       → TellsTo (server_book rows) IsGrowing (Restarts server_name (kept_text names)) (λ _. Any)
   restarts names are = asks_then (either_told
       (told_from (λ node here. here) (says_told (λ node here. told_word (server_book rows node) (codes "up") (among 0 refl))))
-      (then_told (comes names are) (λ _. silent)))
+      (then_told (comes (restart_words server_name) by_restart names are) (λ _. silent)))
 
-restarts_server : TellsTo ledger_of (λ m. IsGrowing m.server) RestartsServer (λ _. Any)
-restarts_server = asks_then (λ alive.
+-- the same of a machine, which knows the names of its clients; and then its requests may be counted anew
+by_names : {A : Type 0} {call : List (List ℕ) → Call (Node (List Commit)) A} (alive : Bool)
+    → ((rows : List Row) (names : List (List ℕ)) → IsNames rows names → TellsTo (server_book rows) IsGrowing (call names) (λ _. Any))
+    → TellsTo ledger_of (λ m. IsGrowing m.server)
+    (Then (Asks names_in) (λ names. Then (At server (call names)) (λ _. Does (λ _. []) (counts_anew alive)))) (λ _. Any)
+by_names {call = call} alive each =
     then_told {Q = λ names m. IsGrowing m.server × (names ≡ names_in m)} (asks_told (λ m here. (here, refl)))
-    (λ names. then_told {Q = λ _. Any} (restarts_by names) (λ _. does_told (counts alive))))
+    (λ names. then_told {Q = λ _. Any} (called names) (λ _. does_told (counts alive)))
   where
     counts : (alive : Bool) (m : Machine) → Unit {0} → Told (ledger_of m) [] (ledger_of (counts_anew alive m)) × Unit {0}
     counts true m here = (told_nothing (ledger_of m) (ledger_of m) refl, tt)
@@ -176,14 +204,42 @@ restarts_server = asks_then (λ alive.
     named m names is c = ap (λ (names : List (List ℕ)). slice_index_or names c []) is ∙ name_at m c
         ∙ sym (ap (λ (row : Row). row.name) (rows_at m.clients c))
 
-    restarts_by : (names : List (List ℕ))
-        → TellsTo ledger_of (λ m. IsGrowing m.server × (names ≡ names_in m)) (At server (Restarts server_name (kept_text names))) (λ _. Any)
-    restarts_by names = record {
+    called : (names : List (List ℕ))
+        → TellsTo ledger_of (λ m. IsGrowing m.server × (names ≡ names_in m)) (At server (call names)) (λ _. Any)
+    called names = record {
       at = λ m n text a here step. rw step.is (
-        ((restarts (map row_of m.clients) names (named m names here.1)).at m.server step.inner text a here.0 step.step).0,
+        ((each (map row_of m.clients) names (named m names here.1)).at m.server step.inner text a here.0 step.step).0,
         tt,
       );
     }
+
+restarts_server : TellsTo ledger_of (λ m. IsGrowing m.server) RestartsServer (λ _. Any)
+restarts_server = asks_then (λ alive. by_names {call = λ names. Restarts server_name (kept_text names)} alive restarts)
+
+says_it : (word : List ℕ) → IsAmong answer_words word
+    → TellsTo ledger_of (λ m. IsGrowing m.server) (Says (λ _. line word)) (λ _. Any)
+says_it word is = told_from (λ m here. here) (says_told (λ m here. told_word (ledger_of m) word is))
+
+promotes_server : TellsTo ledger_of (λ m. IsGrowing m.server) Promotes (λ _. Any)
+promotes_server = asks_then (either_told (says_it (codes "up") (among 0 refl)) (asks_then unless))
+  where
+    gives_up : (m : Machine) → IsGrowing m.server → Told (ledger_of m) [] (ledger_of (give_up m)) × IsGrowing (give_up m).server
+    gives_up m growing =
+        (told_nothing (ledger_of m) (ledger_of m) refl, record { sure = growing.sure; adds = growing.adds })
+
+    unless : (promoted : Bool) → TellsTo ledger_of (λ m. IsGrowing m.server) (promotes_unless promoted) (λ _. Any)
+    unless true = says_it (codes "nothing") (among 5 refl)
+    unless false = then_told (does_told gives_up) (λ _.
+        by_names {call = λ names. ComesBackAs promote_words server_name (kept_text names)} false
+        (λ rows. comes rows promote_words by_promote))
+
+arms_backup : (calls : ℕ) (pick : Pick) → TellsTo ledger_of Any (ArmsBackup calls pick) (λ _. Any)
+arms_backup calls pick = does_told (λ m here. (arms_it m.promoted m, tt))
+  where
+    arms_it : (promoted : Bool) (m : Machine)
+        → Told (ledger_of m) (stop_line backup_name calls pick) (ledger_of (arm_backup calls pick promoted m))
+    arms_it true m = told_other (ledger_of m) _ (forms.stop_backup calls pick refl)
+    arms_it false m = told_other (ledger_of m) _ (forms.stop_backup calls pick refl)
 
 -- ---- the events
 
@@ -255,6 +311,8 @@ event_told (events.Profile name profile) =
     anyhow (does_told (λ m here. (told_nothing (ledger_of m) (ledger_of m) refl, tt)))
 event_told (events.At c what) = anyhow (asks_then (λ scripts. client_told scripts c what))
 event_told (events.Server what) = server_does what
+event_told events.Promote = promotes_server
+event_told (events.StopBackup calls pick) = anyhow (arms_backup calls pick)
 event_told events.Log = anyhow (asks_then (either_told
     (says_told (λ m here. told_other (ledger_of m) _ (forms.log (logged m))))
     (says_told (λ m here. told_word (ledger_of m) (codes "down") (among 1 refl)))))

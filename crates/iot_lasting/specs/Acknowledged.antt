@@ -1,6 +1,6 @@
 -- What is said of a commit, and where it stands then: its line is said once it is in the server's list, under the number of its place,
 -- and a client that hears that its transaction is settled hears this number.
-use Rattle.std.specs.Prelude.{◌≡◌, ◌⊎◌, ℕ, ◌+◌, true, List, ◌++◌, length, Option, Some, None, codes}
+use Rattle.std.specs.Prelude.{◌≡◌, ◌⊎◌, ℕ, ◌+◌, true, List, ◌++◌, length, Option, Some, None}
 use Rattle.iot_event.specs.declared.event.Event.{Event}
 use Rattle.iot_machine.specs.Calls.{Then, At}
 use Rattle.iot_machine.specs.Clients.{Declared}
@@ -9,8 +9,8 @@ use Rattle.iot_machine.specs.Nodes.{Node}
 use Rattle.iot_machine.specs.Options.{OnConflict}
 use Rattle.iot_machine.specs.Serving.{Submission, Verdict, Settled, Commits, commit_text, kept_text, is_of, server_name}
 use Rattle.iot_machine.specs.Sound.{Possibly}
-use Rattle.iot_machine.specs.Stops.{ComesBack}
-use Rattle.iot_machine.specs.Texts.{line, stopped_line, kept_line, lost_line}
+use Rattle.iot_machine.specs.Stops.{ComesBackAs}
+use Rattle.iot_machine.specs.Texts.{line, stopped_line, kept_as, lost_as}
 use Rattle.iot_machine.specs.Transactions.{submits}
 use Rattle.iot_machine.specs.Transcript.{InTurn}
 use Rattle.iot_lasting.specs.Lasting.{IsGrowing, StandsAt}
@@ -39,19 +39,19 @@ ACommitIsSaid = (name : List ℕ) (commit : Commit) (node n : Node (List Commit)
     ⊎ ((text ≡ stopped_line server_name) × (n.durable ≡ node.durable) × (verdict ≡ None))
 
 -- one that comes back with the commit that was in doubt says its line, behind that it was kept
-pub record IsSaidKept (before : List Commit) (text : List ℕ) (after : List Commit) : Type 0 where
+pub record IsSaidKept (words : List ℕ) (before : List Commit) (text : List ℕ) (after : List Commit) : Type 0 where
   pub name : List ℕ
   pub commit : Commit
   pub said : List ℕ
   pub it : IsSaid name commit before said after
-  pub whole : text ≡ kept_line server_name ++ said
+  pub whole : text ≡ kept_as words ++ said
 
--- a server that comes back has its list, or says which commit it has more
+-- a server that comes back, at an event with these words, has its list, or says which commit it has more
 abbrev pub AKeptCommitIsSaid : Type 0
-AKeptCommitIsSaid = (names : List (List ℕ)) (node n : Node (List Commit)) (text : List ℕ) → IsGrowing node
-    → ComesBack server_name (kept_text names) node text true n
-    → IsSaidKept node.durable text n.durable
-    ⊎ (((text ≡ line (codes "restart " ++ server_name)) ⊎ (text ≡ lost_line server_name)) × (n.durable ≡ node.durable))
+AKeptCommitIsSaid = (words : List ℕ) (names : List (List ℕ)) (node n : Node (List Commit)) (text : List ℕ) → IsGrowing node
+    → ComesBackAs words server_name (kept_text names) node text true n
+    → IsSaidKept words node.durable text n.durable
+    ⊎ (((text ≡ line words) ⊎ (text ≡ lost_as words)) × (n.durable ≡ node.durable))
 
 -- if the verdict that comes is that a transaction is settled, it stands under the number that the client says, then and ever after
 abbrev pub ASettledCommitLasts : Type 0

@@ -3,3 +3,4 @@ pub mod Acknowledged
 pub mod Ledger
 pub mod Sayings
 pub mod Telling
+pub mod Promoting

@@ -11,6 +11,7 @@ use Rattle.iot_tree.specs.declared.questions.Question.{Question}
 use Rattle.iot_machine.specs.Clients.{Next}
 use Rattle.iot_machine.specs.Events.{place_text}
 use Rattle.iot_machine.specs.Recorded.{labels_of}
+use Rattle.iot_machine.specs.Serving.{backup_name}
 use Rattle.iot_machine.specs.Texts.{line, stopped_line, kept_line, lost_line, stop_line, lose_line, hoard_line, walk_line, fetch_line, begin_line}
 use Rattle.iot_machine.specs.Texts.{step_line, again_line, cut_line, settled_line, conflict_line, resolve_line, repair_line, acts_output}
 use Rattle.iot_machine.specs.Texts.{tree_text, queue_text, reads_text, log_text}
@@ -25,7 +26,7 @@ pub record IsAmong (words : List (List ℕ)) (word : List ℕ) : Type 0 where
 abbrev pub answer_words : List (List ℕ)
 answer_words =
     codes "up" ∷ codes "down" ∷ codes "busy" ∷ codes "idle" ∷ codes "pending" ∷ codes "nothing" ∷ codes "away" ∷ codes "not manual"
-    ∷ codes "not at end" ∷ []
+    ∷ codes "not at end" ∷ codes "promote" ∷ codes "promote kept" ∷ codes "promote lost" ∷ []
 
 -- before the name of a node
 abbrev pub node_words : List (List ℕ)
@@ -43,6 +44,7 @@ pub data IsOther (l : Ledger) (text : List ℕ) : Type 0 where
   kept : (name : List ℕ) → IsNode l name → text ≡ kept_line name → IsOther l text
   lost : (name : List ℕ) → IsNode l name → text ≡ lost_line name → IsOther l text
   stop : (name : List ℕ) (calls : ℕ) (pick : Pick) → IsNode l name → text ≡ stop_line name calls pick → IsOther l text
+  stop_backup : (calls : ℕ) (pick : Pick) → text ≡ stop_line backup_name calls pick → IsOther l text
   lose : (name : List ℕ) (loss : Loss) → IsNode l name → text ≡ lose_line name loss → IsOther l text
   -- of objects
   hoard : (name : List ℕ) (path : Path) → IsNode l name → text ≡ hoard_line name path → IsOther l text

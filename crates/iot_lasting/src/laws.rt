@@ -1,6 +1,7 @@
 //! A commit in the server's list is never lost, and a transcript tells of each commit and each stop.
 ghost use Rattle.iot_lasting.specs.Acknowledged.{ACommitIsSaid, AKeptCommitIsSaid, ASettledCommitLasts};
 ghost use Rattle.iot_lasting.specs.Lasting.{CommitsKeepTheirNumbers, CommitsLast, EventKeepsCommits, TranscriptsGrow, TranscriptsSplit};
+ghost use Rattle.iot_lasting.specs.Promoting.{PromotionKeepsCommits};
 ghost use Rattle.iot_lasting.specs.Telling.{EventTells, TranscriptTells};
 
 /// No event takes a commit out of the server's list or moves it.
@@ -33,9 +34,14 @@ pub fn a_commit_is_said()
     ensures { ACommitIsSaid }
 {}
 
-/// So is that of a commit that was in doubt and was kept, when its server comes back.
+/// So is that of a commit that was in doubt and was kept, when its server comes back: by `restart`, or from its backup by `promote`.
 pub fn a_kept_commit_is_said()
     ensures { AKeptCommitIsSaid }
+{}
+
+/// No promotion of the server's backup loses a commit whose line was said, or moves it, also if the server stops in it.
+pub fn a_promotion_keeps_commits()
+    ensures { PromotionKeepsCommits }
 {}
 
 /// A transaction of which a client hears that it is settled stands under that number, then and ever after.

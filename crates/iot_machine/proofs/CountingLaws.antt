@@ -7,8 +7,8 @@ use Rattle.iot_machine.specs.Calls.{Call, Asks, Does, Says, Nothing, Then, eithe
 use Rattle.iot_machine.specs.Counting.{IsSteady, HasStopped, StopsOnce, Since}
 use Rattle.iot_machine.specs.Machine.{Machine, Client, no_client, client_in, put_client}
 use Rattle.iot_machine.specs.Nodes.{Node, Counts, fallen, doubting}
-use Rattle.iot_machine.specs.Stops.{IsStopped, OpensNode, Appends, ComesBackWith, ComesBack, Crashes, Restarts, Shows}
-use Rattle.iot_machine.specs.Texts.{line}
+use Rattle.iot_machine.specs.Stops.{IsStopped, OpensNode, Appends, SettlesAs, ComesBackAs, ComesBack, Crashes, Restarts, Shows}
+use Rattle.iot_machine.specs.Texts.{line, restart_words}
 use Rattle.iot_machine.proofs.FollowsLaws.{at_set}
 
 -- ---- a node
@@ -49,21 +49,25 @@ module _ {S : Type 0} where
   opens_once name node n text on down (inl step) = rw step.2 (inl (record { counts = refl; stops = refl }))
   opens_once name node n text on down (inr step) = inr (stops_now node node n (steady node) down step.2)
 
-  settles_steady : (name : List ℕ) (says : S → S → List ℕ) (doubt : Option S) (node n : Node S) (text : List ℕ)
-      → ComesBackWith name says doubt node text n → IsSteady node n
-  settles_steady name says None node n text step = rw step.1 (record { counts = refl; stops = refl })
-  settles_steady name says (Some after) node n text (inl step) = rw step.1 (record { counts = refl; stops = refl })
-  settles_steady name says (Some after) node n text (inr step) = rw step.1 (record { counts = refl; stops = refl })
+  settles_steady : (words : List ℕ) (says : S → S → List ℕ) (doubt : Option S) (node n : Node S) (text : List ℕ)
+      → SettlesAs words says doubt node text n → IsSteady node n
+  settles_steady words says None node n text step = rw step.1 (record { counts = refl; stops = refl })
+  settles_steady words says (Some after) node n text (inl step) = rw step.1 (record { counts = refl; stops = refl })
+  settles_steady words says (Some after) node n text (inr step) = rw step.1 (record { counts = refl; stops = refl })
 
-  -- it comes back, or stops again
+  -- it comes back at an event with these words, or stops again
+  pub comes_as_once : (words name : List ℕ) (says : S → S → List ℕ) (node n : Node S) (text : List ℕ) (on : Bool) → node.alive ≡ false
+      → ComesBackAs words name says node text on n → StopsOnce node n
+  comes_as_once words name says node n text on down (inl step) = inl (settles_steady words says node.doubt node n text step.1)
+  comes_as_once words name says node n text on down (inr step) = inr (stops_now node node n (steady node) down step.2)
+
   pub comes_once : (name : List ℕ) (says : S → S → List ℕ) (node n : Node S) (text : List ℕ) (on : Bool) → node.alive ≡ false
       → ComesBack name says node text on n → StopsOnce node n
-  comes_once name says node n text on down (inl step) = inl (settles_steady name says node.doubt node n text step.1)
-  comes_once name says node n text on down (inr step) = inr (stops_now node node n (steady node) down step.2)
+  comes_once name says node n text on down step = comes_as_once (restart_words name) name says node n text on down step
 
   pub comes_steady : (name : List ℕ) (says : S → S → List ℕ) (node n : Node S) (text : List ℕ) → ComesBack name says node text true n
       → IsSteady node n
-  comes_steady name says node n text (inl step) = settles_steady name says node.doubt node n text step.1
+  comes_steady name says node n text (inl step) = settles_steady (restart_words name) says node.doubt node n text step.1
   comes_steady name says node n text (inr step) = absurd cc
 
   -- what is asked of it, and then a call by the answer
@@ -106,15 +110,31 @@ module _ {S : Type 0} where
 -- ---- a machine
 
 pub since_itself : (m : Machine) → Since m m
-since_itself m = record { server = inl (steady m.server); clients = λ c. inl (steady (client_in m c).node); count = refl; spare = refl }
+since_itself m = record {
+  server = inl (steady m.server);
+  clients = λ c. inl (steady (client_in m c).node);
+  count = refl;
+  promoted = refl;
+  beside = refl;
+  spare = refl;
+}
 
--- with another server, or the same clients and disks
-pub since_server : (b m n : Machine) → n.clients ≡ m.clients → n.spare ≡ m.spare → StopsOnce b.server n.server → Since b m → Since b n
-since_server b m n clients spare server since = record {
+-- the same clients and disks
+pub record SameRest (m n : Machine) : Type 0 where
+  pub clients : n.clients ≡ m.clients
+  pub promoted : n.promoted ≡ m.promoted
+  pub beside : n.beside ≡ m.beside
+  pub spare : n.spare ≡ m.spare
+
+-- with another server
+pub since_server : (b m n : Machine) → SameRest m n → StopsOnce b.server n.server → Since b m → Since b n
+since_server b m n rest server since = record {
   server = server;
-  clients = λ c. rw clients (since.clients c);
-  count = ap length clients ∙ since.count;
-  spare = spare ∙ since.spare;
+  clients = λ c. rw rest.clients (since.clients c);
+  count = ap length rest.clients ∙ since.count;
+  promoted = rest.promoted ∙ since.promoted;
+  beside = rest.beside ∙ since.beside;
+  spare = rest.spare ∙ since.spare;
 }
 
 -- what is so of the node at a place, there and in another machine, is so with another client in that place
@@ -133,5 +153,7 @@ since_put b m c client goes since = record {
   server = since.server;
   clients = λ k. put_at (λ one other. StopsOnce one.node other.node) b m c k client goes (since.clients k);
   count = length-set m.clients c client ∙ since.count;
+  promoted = since.promoted;
+  beside = since.beside;
   spare = since.spare;
 }

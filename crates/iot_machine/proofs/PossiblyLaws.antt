@@ -6,8 +6,9 @@ use Rattle.iot_machine.specs.Calls.{Call, Asks, Does, Says, Nothing, Then, eithe
 use Rattle.iot_machine.specs.Clients.{ClientState}
 use Rattle.iot_machine.specs.Machine.{Commit}
 use Rattle.iot_machine.specs.Nodes.{Node, fallen, doubting, armed}
-use Rattle.iot_machine.specs.Stops.{IsStopped, OpensNode, Appends, ComesBackWith, ComesBack, Crashes, Restarts, ArmsDisk, Shows}
-use Rattle.iot_machine.specs.Texts.{line}
+use Rattle.iot_machine.specs.Stops.{IsStopped, OpensNode, Appends, SettlesAs, ComesBackAs, ComesBack, Crashes, Restarts, ArmsDisk}
+use Rattle.iot_machine.specs.Stops.{Shows}
+use Rattle.iot_machine.specs.Texts.{line, restart_words}
 use Rattle.iot_machine.specs.Sound.{Possibly, IsSure, AreNumbered, ArePlanned, Knows}
 use Rattle.iot_machine.proofs.FollowsLaws.{Follows}
 
@@ -106,34 +107,40 @@ module _ {S : Type 0} where
   appends_alive name change node n text up (inl step) = rw step.2 up
   appends_alive name change node n text up (inr step) = absurd cc
 
-  settles_possibly : {P : S → Type 0} (name : List ℕ) (says : S → S → List ℕ) (doubt : Option S) (node n : Node S) (text : List ℕ)
-      → P node.durable → IfSome doubt P → ComesBackWith name says doubt node text n → Possibly P n
-  settles_possibly name says None node n text it other step = rw step.1 (record { is = it; may_be = tt })
-  settles_possibly name says (Some after) node n text it other (inl step) = rw step.1 (record { is = other; may_be = tt })
-  settles_possibly name says (Some after) node n text it other (inr step) = rw step.1 (record { is = it; may_be = tt })
+  settles_possibly : {P : S → Type 0} (words : List ℕ) (says : S → S → List ℕ) (doubt : Option S) (node n : Node S) (text : List ℕ)
+      → P node.durable → IfSome doubt P → SettlesAs words says doubt node text n → Possibly P n
+  settles_possibly words says None node n text it other step = rw step.1 (record { is = it; may_be = tt })
+  settles_possibly words says (Some after) node n text it other (inl step) = rw step.1 (record { is = other; may_be = tt })
+  settles_possibly words says (Some after) node n text it other (inr step) = rw step.1 (record { is = it; may_be = tt })
 
-  settles_none : (name : List ℕ) (says : S → S → List ℕ) (doubt : Option S) (node n : Node S) (text : List ℕ)
-      → ComesBackWith name says doubt node text n → n.doubt ≡ None
-  settles_none name says None node n text step = rw step.1 refl
-  settles_none name says (Some after) node n text (inl step) = rw step.1 refl
-  settles_none name says (Some after) node n text (inr step) = rw step.1 refl
+  settles_none : (words : List ℕ) (says : S → S → List ℕ) (doubt : Option S) (node n : Node S) (text : List ℕ)
+      → SettlesAs words says doubt node text n → n.doubt ≡ None
+  settles_none words says None node n text step = rw step.1 refl
+  settles_none words says (Some after) node n text (inl step) = rw step.1 refl
+  settles_none words says (Some after) node n text (inr step) = rw step.1 refl
 
-  comes_possibly : {P : S → Type 0} (name : List ℕ) (says : S → S → List ℕ) (node n : Node S) (text : List ℕ) (on : Bool)
-      → Possibly P node → ComesBack name says node text on n → Possibly P n
-  comes_possibly name says node n text on it (inl step) = settles_possibly name says node.doubt node n text it.is it.may_be step.1
-  comes_possibly name says node n text on it (inr step) = possibly_same node n (stopped_states node n step.2) it
+  comes_possibly : {P : S → Type 0} (words name : List ℕ) (says : S → S → List ℕ) (node n : Node S) (text : List ℕ) (on : Bool)
+      → Possibly P node → ComesBackAs words name says node text on n → Possibly P n
+  comes_possibly words name says node n text on it (inl step) =
+      settles_possibly words says node.doubt node n text it.is it.may_be step.1
+  comes_possibly words name says node n text on it (inr step) = possibly_same node n (stopped_states node n step.2) it
 
-  comes_sure : (name : List ℕ) (says : S → S → List ℕ) (node n : Node S) (text : List ℕ) (on : Bool) → IsSure node
-      → ComesBack name says node text on n → IsSure n
-  comes_sure name says node n text on sure (inl step) = λ up. settles_none name says node.doubt node n text step.1
-  comes_sure name says node n text on sure (inr step) = stopped_sure node n sure step.2
+  comes_sure : (words name : List ℕ) (says : S → S → List ℕ) (node n : Node S) (text : List ℕ) (on : Bool) → IsSure node
+      → ComesBackAs words name says node text on n → IsSure n
+  comes_sure words name says node n text on sure (inl step) = λ up. settles_none words says node.doubt node n text step.1
+  comes_sure words name says node n text on sure (inr step) = stopped_sure node n sure step.2
+
+  -- at an event with these words
+  pub comes_as_within : (words name : List ℕ) (says : S → S → List ℕ) (node n : Node S) (text : List ℕ) (on : Bool)
+      → ComesBackAs words name says node text on n → Within node n
+  comes_as_within words name says node n text on step = record {
+    sure = λ sure. comes_sure words name says node n text on sure step;
+    each = λ P it. comes_possibly words name says node n text on it step;
+  }
 
   pub comes_within : (name : List ℕ) (says : S → S → List ℕ) (node n : Node S) (text : List ℕ) (on : Bool)
       → ComesBack name says node text on n → Within node n
-  comes_within name says node n text on step = record {
-    sure = λ sure. comes_sure name says node n text on sure step;
-    each = λ P it. comes_possibly name says node n text on it step;
-  }
+  comes_within name says node n text on step = comes_as_within (restart_words name) name says node n text on step
 
 -- ---- of a client's node
 

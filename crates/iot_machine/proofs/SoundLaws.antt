@@ -14,29 +14,31 @@ use Rattle.iot_event.specs.declared.event.LinkEvent.TheVariants as links
 use Rattle.iot_event.specs.declared.event.NodeEvent.{NodeEvent}
 use Rattle.iot_event.specs.declared.event.NodeEvent.TheVariants as nodes
 use Rattle.iot_link.specs.Links.{LinkState}
-use Rattle.iot_machine.specs.Calls.{Call, Part, Try, At, Says, either, goes_on, Whole}
+use Rattle.iot_machine.specs.Calls.{Call, Part, Try, At, Asks, Says, Then, either, goes_on, Whole}
 use Rattle.iot_machine.specs.Clients.{Running, ClientState, view, cut}
-use Rattle.iot_machine.specs.Counting.{IsSteady, StopsOnce, Since, base_of, EventCounts, EventKeepsSound, OpeningCounts, OpeningIsSound}
+use Rattle.iot_machine.specs.Counting.{IsSteady, StopsOnce, Since, base_of, base_of_promote, EventCounts, EventKeepsSound}
+use Rattle.iot_machine.specs.Counting.{OpeningCounts, OpeningIsSound}
 use Rattle.iot_machine.specs.Events.{add_client, Declares, declare_script, IfUp, OfClient}
 use Rattle.iot_machine.specs.Events.{FindsLongest, cuts_off, no_text, comes_back, RestartsClient, ArmsClient, counts_anew}
-use Rattle.iot_machine.specs.Events.{RestartsServer, link_part, event_part}
+use Rattle.iot_machine.specs.Events.{RestartsServer, promotes_unless, Promotes, ArmsBackup, link_part, event_part}
 use Rattle.iot_machine.specs.Machine.{Machine, Client, Commit, no_client, client_in, put_client, server, client_at, node, Pair, pair_at}
-use Rattle.iot_machine.specs.Machine.{tree_after, handed}
-use Rattle.iot_machine.specs.Nodes.{Node, Counts, armed}
+use Rattle.iot_machine.specs.Machine.{tree_after, handed, give_up, arm_backup}
+use Rattle.iot_machine.specs.Nodes.{Node, Counts, armed, arming_as}
 use Rattle.iot_machine.specs.Serving.{server_name, kept_text}
 use Rattle.iot_machine.specs.Sound.{Possibly, Knows, IsSureOf, IsNumbered, HasPlans, IsListed, IsSound}
-use Rattle.iot_machine.specs.Stops.{OpensNode, Appends, ComesBack, ArmsDisk}
-use Rattle.iot_machine.specs.Texts.{line, tree_text}
+use Rattle.iot_machine.specs.Stops.{OpensNode, Appends, ComesBackAs, ComesBack, ArmsDisk}
+use Rattle.iot_machine.specs.Texts.{line, promote_words, tree_text}
 use Rattle.iot_machine.specs.Transactions.{Writes}
 use Rattle.iot_machine.specs.Transcript.{Opening}
 use Rattle.iot_machine.proofs.KeepsLaws.{Keeps, Stays, keeps_gets, keeps_asks, keeps_does, stays_says, keeps_from, keeps_then, stays_then}
 use Rattle.iot_machine.proofs.KeepsLaws.{asks_then, keeps_either, stays_goes_on, keeps_whole, keeps_at}
 use Rattle.iot_machine.proofs.FollowsLaws.{all_at, all_set, at_set, all_as, cut_follows}
 use Rattle.iot_machine.proofs.PossiblyLaws.{possibly_as, Within, within_itself, same_within, opens_states, opens_sure, comes_within}
+use Rattle.iot_machine.proofs.PossiblyLaws.{comes_as_within}
 use Rattle.iot_machine.proofs.PossiblyLaws.{Continues, within_continues, appends_continues, crashes_within, restarts_within, arms_within}
 use Rattle.iot_machine.proofs.PossiblyLaws.{shows_within}
 use Rattle.iot_machine.proofs.CountingLaws.{steady, appends_once, appends_steady, opens_once, comes_once, comes_steady, crashes_once}
-use Rattle.iot_machine.proofs.CountingLaws.{restarts_once, shows_once, since_itself, since_server, since_put, put_at}
+use Rattle.iot_machine.proofs.CountingLaws.{comes_as_once, restarts_once, shows_once, since_itself, SameRest, since_server, since_put, put_at}
 use Rattle.iot_machine.proofs.MachinesLaws.{sound_from, put_sound, new_numbered, added_sound, added_at}
 use Rattle.iot_machine.proofs.PairLaws.{Core, core, IsListedAt, IsPairSound, IsGood as IsPairGood, IsAwake}
 use Rattle.iot_machine.proofs.CallsLaws.{Wakes, task_wakes}
@@ -51,11 +53,15 @@ pub record IsGood (b m : Machine) : Type 0 where
   pub since : Since b m
 
 -- the same nodes
-good_same : (b m n : Machine) → n.clients ≡ m.clients → n.spare ≡ m.spare → n.server ≡ m.server → IsGood b m → IsGood b n
-good_same b m n clients spare server it = record {
-  sound = sound_from m n clients (within_itself m.server n.server server) it.sound;
-  since = since_server b m n clients spare (rw server it.since.server) it.since;
+good_same : (b m n : Machine) → SameRest m n → n.server ≡ m.server → IsGood b m → IsGood b n
+good_same b m n rest server it = record {
+  sound = sound_from m n rest.clients (within_itself m.server n.server server) it.sound;
+  since = since_server b m n rest (rw server it.since.server) it.since;
 }
+
+-- all but the server, the requests and the scripts are untouched
+rest_same : (m n : Machine) → n.clients ≡ m.clients → n.promoted ≡ m.promoted → n.beside ≡ m.beside → n.spare ≡ m.spare → SameRest m n
+rest_same m n clients promoted beside spare = record { clients = clients; promoted = promoted; beside = beside; spare = spare }
 
 -- ---- a client with the server, and all others: what the two keep, the machine keeps
 
@@ -133,6 +139,8 @@ module _ (m : Machine) (c : ℕ) where
         clients = λ k. put_at (λ one other. StopsOnce one.node other.node) m m c k pair.client (λ _. it.client)
             (inl (steady (client_in m k).node));
         count = length-set m.clients c pair.client;
+        promoted = refl;
+        beside = refl;
         spare = refl;
       };
     }
@@ -312,7 +320,7 @@ module _ (b : Machine) where
                 pair_good m c (is_there m.clients c (sym here.1)) n sound ((whole m (sym here.1) sound).at p n text a here.0 step);
           }
           by_up false = keeps_does (λ pair here. subst (λ (one : Pair). IsGood m ((pair_at c).set one m)) (sym here.0)
-              (good_same m m ((pair_at c).set ((pair_at c).get m) m) (set_same m.clients c) refl refl
+              (good_same m m ((pair_at c).set ((pair_at c).get m) m) (rest_same m _ (set_same m.clients c) refl refl refl) refl
               (record { sound = sound; since = since_itself m })))
 
   -- ---- an event of a client alone
@@ -332,7 +340,7 @@ module _ (b : Machine) where
       → IsGood b (record m { server = n })
   server_good m n here within once = record {
     sound = sound_with m n within here.0;
-    since = since_server b m (record m { server = n }) refl refl
+    since = since_server b m (record m { server = n }) (rest_same m _ refl refl refl refl)
         (subst (λ (one : Machine). StopsOnce one.server n) here.1 once) (good_first m here).since;
   }
 
@@ -345,15 +353,37 @@ module _ (b : Machine) where
         rw step.is (server_good m step.inner here (within node step.inner text a step.step) (once node step.inner text a step.step));
   }
 
+  counts_good : (alive : Bool) (m : Machine) → IsGood b m → IsGood b (counts_anew alive m)
+  counts_good true m good = good
+  counts_good false m good = good_same b m (counts_anew false m) (rest_same m _ refl refl refl refl) refl good
+
   restart_good : KeepsGood RestartsServer
   restart_good = asks_then (λ alive. asks_then (λ names.
       keeps_then {Q = λ _. IsGood b}
       (server_event (restarts_within server_name (kept_text names)) (restarts_once server_name (kept_text names)))
       (λ _. keeps_does (counts_good alive))))
+
+  -- ---- its backup
+
+  -- a server that is down comes back from another disk, once the first one is given up
+  promotes_good : Keeps (λ m. (IsSound m × (m.server.alive ≡ false)) × (give_up m ≡ b)) (promotes_unless false) (λ _. IsGood b)
+  promotes_good =
+      keeps_then {Q = λ _ m. AtFirst m × (m.server.alive ≡ false)}
+      (keeps_does (λ m here. ((gives_up m here.0.0, here.1), here.0.1)))
+      (λ _. asks_then (λ names. keeps_then {Q = λ _. IsGood b} (comes names) (λ _. keeps_does (counts_good false))))
     where
-      counts_good : (alive : Bool) (m : Machine) → IsGood b m → IsGood b (counts_anew alive m)
-      counts_good true m good = good
-      counts_good false m good = good_same b m (counts_anew false m) refl refl refl good
+      gives_up : (m : Machine) → IsSound m → IsSound (give_up m)
+      gives_up m sound = sound_from m (give_up m) refl
+          (same_within m.server (arming_as m.beside m.server) (record { durable = refl; doubt = refl }) (λ sure. sure)) sound
+
+      comes : (names : List (List ℕ)) → Keeps (λ m. AtFirst m × (m.server.alive ≡ false))
+          (At server (ComesBackAs promote_words server_name (kept_text names))) (λ _. IsGood b)
+      comes names = record {
+        at = λ m n text on here step.
+            rw step.is (server_good m step.inner here.0
+            (comes_as_within promote_words server_name (kept_text names) m.server step.inner text on step.step)
+            (comes_as_once promote_words server_name (kept_text names) m.server step.inner text on here.1 step.step));
+      }
 
   -- ---- what starts
 
@@ -411,6 +441,18 @@ module _ (b : Machine) where
           since = subst (Since b) (sym (ap (λ (node : Node (List Commit)). record m { server = node }) inner ∙ here.1)) (since_itself b);
         });
   }
+
+  arms_backup : (calls : ℕ) (pick : Pick) → Keeps (λ m. IsSound m × (arm_backup calls pick m.promoted m ≡ b)) (ArmsBackup calls pick)
+      (λ _. IsGood b)
+  arms_backup calls pick = keeps_does (λ m here. record {
+    sound = sounds m.promoted m here.0;
+    since = subst (Since b) (sym here.1) (since_itself b);
+  })
+    where
+      sounds : (promoted : Bool) (m : Machine) → IsSound m → IsSound (arm_backup calls pick promoted m)
+      sounds true m sound = sound_with m (armed calls pick m.server)
+          (same_within m.server (armed calls pick m.server) (record { durable = refl; doubt = refl }) (λ sure. sure)) sound
+      sounds false m sound = sound_from m (arm_backup calls pick false m) refl (within_itself m.server m.server refl) sound
 
   arms_client : (c : ℕ) (calls : ℕ) (pick : Pick)
       → Keeps (λ m. IsSound m × (put_client c (armed_client calls pick (client_in m c)) m ≡ b))
@@ -471,11 +513,42 @@ server_events_good nodes.Crash m n text sound step = same_event m (events.Server
     (server_event m (crashes_within server_name) (crashes_once server_name)) n text sound step
 server_events_good nodes.Restart m n text sound step = same_event m (events.Server nodes.Restart) refl (restart_good m) n text sound step
 
+-- what is asked of a machine decides what is done
+by_asked : {ask : Machine → Bool} (next : Bool → Part Machine) (m n : Machine) (text : List ℕ) → Then (Asks ask) next m text tt n
+    → (rest : List ℕ) × next (ask m) m rest tt n
+by_asked next m n text step = (
+  step.rest,
+  subst (λ (answer : Bool). next answer m step.rest tt n) step.first.1
+      (subst (λ (mid : Machine). next step.answer mid step.rest tt n) step.first.2 step.second),
+)
+
+promote_good : (m n : Machine) (text : List ℕ) → IsSound m → Promotes m text tt n
+    → IsGood (base_of_promote m.server.alive m.promoted m) n
+promote_good m n text sound step =
+    let asked = by_asked (either (Says (λ _. line (codes "up"))) (Then (Asks (λ m. m.promoted)) promotes_unless)) m n text step in
+    by_alive m.server.alive refl asked.0 asked.1
+  where
+    as_it_was : n ≡ m → IsGood m n
+    as_it_was is = subst (IsGood m) (sym is) (record { sound = sound; since = since_itself m })
+
+    by_promoted : (promoted : Bool) (text : List ℕ) → m.server.alive ≡ false → promotes_unless promoted m text tt n
+        → IsGood (base_of_promote false promoted m) n
+    by_promoted true text down step = as_it_was step.1
+    by_promoted false text down step = (promotes_good (give_up m)).at m n text tt ((sound, down), refl) step
+
+    by_alive : (alive : Bool) → m.server.alive ≡ alive → (text : List ℕ)
+        → either (Says (λ _. line (codes "up"))) (Then (Asks (λ m. m.promoted)) promotes_unless) alive m text tt n
+        → IsGood (base_of_promote alive m.promoted m) n
+    by_alive true is text step = as_it_was step.1
+    by_alive false is text step =
+        let asked = by_asked promotes_unless m n text step in
+        by_promoted m.promoted asked.0 is asked.1
+
 event_good : (event : Event) (m n : Machine) (text : List ℕ) → IsSound m → event_part event m text tt n → IsGood (base_of event m) n
 event_good (events.Client name) m n text sound step = (declares_good (add_client name m) name).at m n text tt (sound, refl) step
 event_good (events.Script name code) m n text sound step = same_event m (events.Script name code) refl
-    (keeps_does (λ k here. good_same m k (declare_script (record { name = name; code = code }) k) refl refl refl (good_first m k here)))
-    n text sound step
+    (keeps_does (λ k here. good_same m k (declare_script (record { name = name; code = code }) k)
+    (rest_same k _ refl refl refl refl) refl (good_first m k here))) n text sound step
 event_good (events.Profile name profile) m n text sound step =
     same_event m (events.Profile name profile) refl (keeps_does (good_first m)) n text sound step
 event_good (events.At c (client_events.Node what)) m n text sound step = node_good c what m n text sound step
@@ -484,6 +557,9 @@ event_good (events.At c (client_events.Link what)) m n text sound step =
 event_good (events.At c (client_events.Task what)) m n text sound step = same_event m (events.At c (client_events.Task what)) refl
     (asks_then (λ scripts. of_client m c (λ Others p. task_wakes Others p scripts what))) n text sound step
 event_good (events.Server what) m n text sound step = server_events_good what m n text sound step
+event_good events.Promote m n text sound step = promote_good m n text sound step
+event_good (events.StopBackup calls pick) m n text sound step =
+    (arms_backup (base_of (events.StopBackup calls pick) m) calls pick).at m n text tt (sound, refl) step
 event_good events.Log m n text sound step = same_event m events.Log refl
     (asks_then (keeps_either (keeps_does (good_first m)) (keeps_does (good_first m)))) n text sound step
 

@@ -26,15 +26,15 @@ use Rattle.iot_machine.specs.Calls.{either, goes_on, OrSays}
 use Rattle.iot_machine.specs.Clients.{Declared, Running, ClientState, numbered, Next, AtEnd, AtLimit, Acts, Fetches, IsLongest}
 use Rattle.iot_machine.specs.Clients.{new_client, view, leave, repair, cut}
 use Rattle.iot_machine.specs.Machine.{Machine, Client, first_of, client_at, node, cut_off, is_first, Pair, pair_at, kept, script_at}
-use Rattle.iot_machine.specs.Machine.{server, tree_after}
+use Rattle.iot_machine.specs.Machine.{server, tree_after, give_up, arm_backup}
 use Rattle.iot_machine.specs.Nodes.{unopened}
 use Rattle.iot_machine.specs.Options as options
 use Rattle.iot_machine.specs.Options.{OnConflict}
 use Rattle.iot_machine.specs.Recorded.{queue_kept, labels_of}
-use Rattle.iot_machine.specs.Serving.{server_name, kept_text}
+use Rattle.iot_machine.specs.Serving.{server_name, backup_name, kept_text}
 use Rattle.iot_machine.specs.Serving as errands
-use Rattle.iot_machine.specs.Stops.{OpensNode, ComesBack, Crashes, Restarts, ArmsDisk, Shows}
-use Rattle.iot_machine.specs.Texts.{line, connect_line, disconnect_line, lose_line}
+use Rattle.iot_machine.specs.Stops.{OpensNode, ComesBack, ComesBackAs, Crashes, Restarts, ArmsDisk, Shows}
+use Rattle.iot_machine.specs.Texts.{line, connect_line, disconnect_line, lose_line, promote_words, stop_line}
 use Rattle.iot_machine.specs.Texts.{client_line, hoard_line, refresh_line, walk_line, begin_line, step_line, repair_line, discard_line}
 use Rattle.iot_machine.specs.Texts.{transaction_name, tree_text, cut_line, queue_text, reads_text, log_text}
 use Rattle.iot_machine.specs.Transactions.{Writes, Notes, Refuses, IfRoom, IfRuns, runs, pends, Takes, Begins, Steps, next_of, Ends}
@@ -237,6 +237,24 @@ RestartsServer =
     Then (Asks names_in) (λ names.
     Then (At server (Restarts server_name (kept_text names))) (λ _. Does (λ _. []) (counts_anew alive))))
 
+-- From its backup, unless that was done before. The first disk is given up, also if the server stops in this.
+abbrev pub promotes_unless : (promoted : Bool) → Part Machine
+promotes_unless true = Says (λ _. line (codes "nothing"))
+promotes_unless false =
+    Then (Does (λ _. []) give_up) (λ _.
+    Then (Asks names_in) (λ names.
+    Then (At server (ComesBackAs promote_words server_name (kept_text names))) (λ _. Does (λ _. []) (counts_anew false))))
+
+-- a server that is down comes back from its backup
+abbrev pub Promotes : Part Machine
+Promotes =
+    Then (Asks (λ m. m.server.alive))
+    (either (Says (λ _. line (codes "up"))) (Then (Asks (λ m. m.promoted)) promotes_unless))
+
+-- the backup's disk is to fail
+abbrev pub ArmsBackup : (calls : ℕ) → Pick → Part Machine
+ArmsBackup calls pick = Does (λ _. stop_line backup_name calls pick) (λ m. arm_backup calls pick m.promoted m)
+
 -- what was committed
 abbrev pub Logs : Part Machine
 Logs =
@@ -299,4 +317,6 @@ event_part (events.Script name code) = Does (λ _. []) (declare_script (record {
 event_part (events.Profile name profile) = Nothing
 event_part (events.At client what) = Then (Asks (λ m. m.scripts)) (λ scripts. client_part scripts client what)
 event_part (events.Server what) = server_part what
+event_part events.Promote = Promotes
+event_part (events.StopBackup calls pick) = ArmsBackup calls pick
 event_part events.Log = Logs

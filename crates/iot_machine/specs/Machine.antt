@@ -1,7 +1,10 @@
 -- The plain machine: the server's list of committed scripts, the clients, and the scripts. The server has no tree of its own: its
 -- tree is what its list gives when it is run from the start. Nor has a client a view: it is what its transactions make of its tree.
-use Rattle.std.specs.Prelude.{ℕ, ◌+◌, ◌==◌, Bool, true, false, not, List, [], ◌∷◌, ◌++◌, map, filter, drop, slice_index_or, slice_set}
+use Rattle.std.specs.Prelude.{ℕ, ◌+◌, ◌==◌, Bool, true, false, not, List, [], ◌∷◌, ◌++◌, map, filter, take, drop, slice_index_or}
+use Rattle.std.specs.Prelude.{slice_set}
 use Rattle.std.specs.List.{list_any}
+use Rattle.iot_disk.specs.Disk.{Arms, armed_with}
+use Rattle.iot_disk.specs.declared.disk.Pick.{Pick}
 use Rattle.iot_tree.specs.Tree.{Nodes}
 use Rattle.iot_tree.specs.declared.labels.Way.{Way}
 use Rattle.iot_lang.specs.Code.{End}
@@ -10,7 +13,7 @@ use Rattle.iot_link.specs.Links.{LinkState, connected}
 use Rattle.iot_exec.specs.Serial.{Entry, serial_tree}
 use Rattle.iot_machine.specs.Calls.{Lens}
 use Rattle.iot_machine.specs.Clients.{Declared, ClientState, new_client}
-use Rattle.iot_machine.specs.Nodes.{Node, Counts, unopened, no_counts}
+use Rattle.iot_machine.specs.Nodes.{Node, Counts, unopened, armed, arming_as, paired, no_counts}
 
 -- a committed transaction, and the name of its script
 pub record Commit : Type 0 where
@@ -25,11 +28,14 @@ pub record Client : Type 0 where
   pub link : LinkState
   pub first : List ℕ
 
--- the server, whose durable state is its list, and how many requests it has answered since its start; the clients; the scripts; and what
--- is counted of the disks of the clients that are not declared yet
+-- The server, whose durable state is its list; how many requests it has answered since its start; whether its backup was promoted, and how
+-- its other disk was armed; the clients; the scripts; and what is counted of the disks of the clients that are not declared yet. The server
+-- has a backup exactly until that is promoted: the other disk is the backup's until then, and later the one that was given up.
 pub record Machine : Type 0 where
   pub server : Node (List Commit)
   pub requests : ℕ
+  pub promoted : Bool
+  pub beside : Arms
   pub clients : List Client
   pub scripts : List Declared
   pub spare : List Counts
@@ -38,15 +44,32 @@ pub record Machine : Type 0 where
 abbrev pub first_of : List Counts → Counts
 first_of counts = slice_index_or counts 0 no_counts
 
--- before anything has started, over disks with these counts; the first is the server's
+-- the tenth of them
+abbrev pub last_of : List Counts → Counts
+last_of counts = slice_index_or counts 9 no_counts
+
+-- before anything has started, over ten disks with these counts; the first is the server's, the last its backup's
 abbrev pub handed : List Counts → Machine
 handed counts = record {
-  server = unopened [] (first_of counts);
+  server = unopened [] (paired (first_of counts) (last_of counts));
   requests = 0;
+  promoted = false;
+  beside = (last_of counts).arms;
   clients = [];
   scripts = [];
-  spare = drop 1 counts;
+  spare = take 8 (drop 1 counts);
 }
+
+-- ---- the server's two disks
+
+-- the first one is given up: from now on the server's disk is the backup's
+abbrev pub give_up : Machine → Machine
+give_up m = record m { server = arming_as m.beside m.server; promoted = true; beside = m.server.counts.arms }
+
+-- the backup's is armed; it is the server's own if it was promoted
+abbrev pub arm_backup : (calls : ℕ) → Pick → (promoted : Bool) → Machine → Machine
+arm_backup calls pick false m = record m { beside = armed_with m.beside calls pick }
+arm_backup calls pick true m = record m { server = armed calls pick m.server }
 
 -- ---- a list of commits
 

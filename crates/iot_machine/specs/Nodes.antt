@@ -1,9 +1,10 @@
 -- A node of the machine, over any durable state.
-use Rattle.std.specs.Prelude.{ℕ, Bool, true, false, Option, None, Some}
+use Rattle.std.specs.Prelude.{ℕ, ◌+◌, Bool, true, false, Option, None, Some}
 use Rattle.iot_disk.specs.Disk.{Arms, armed_with, never_armed}
 use Rattle.iot_disk.specs.declared.disk.Pick.{Pick}
 
--- what a node's disk counts: how often it has failed, and how it was armed
+-- What a node's disk counts: how often it has failed, and how it was armed. The server has two disks: it counts how often they have failed
+-- together, and how the one was armed that its `stop` events arm.
 pub record Counts : Type 0 where
   pub faults : ℕ
   pub arms : Arms
@@ -43,6 +44,14 @@ back s node = record node { alive = true; durable = s; doubt = None }
 -- its disk is armed
 abbrev pub armed : {S : Type 0} → ℕ → Pick → Node S → Node S
 armed calls pick node = record node { counts = record node.counts { arms = armed_with node.counts.arms calls pick } }
+
+-- it goes on from another disk, which was armed so
+abbrev pub arming_as : {S : Type 0} → Arms → Node S → Node S
+arming_as arms node = record node { counts = record node.counts { arms = arms } }
+
+-- what a node with two disks counts that starts on the first
+abbrev pub paired : (first second : Counts) → Counts
+paired first second = record { faults = first.faults + second.faults; arms = first.arms }
 
 -- the counts of a disk that never failed and was never armed
 abbrev pub no_counts : Counts

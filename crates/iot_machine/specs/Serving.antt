@@ -22,6 +22,10 @@ use Rattle.iot_machine.specs.Texts.{transaction_name, commit_line, acts_output}
 abbrev pub server_name : List ℕ
 server_name = codes "server"
 
+-- its backup
+abbrev pub backup_name : List ℕ
+backup_name = codes "backup"
+
 -- ---- objects
 
 -- what a client asks for: what it knows and wants besides, or what a profile picks within a limit

@@ -4,7 +4,7 @@ use Rattle.iot_count.specs.Counts.{Rose}
 use Rattle.iot_disk.specs.declared.disk.Pick.{Pick}
 use Rattle.iot_machine.specs.Calls.{Call, Part, Does, Says, Nothing, Asks, Then, either}
 use Rattle.iot_machine.specs.Nodes.{Node, opened, changed, fallen, doubting, back, armed}
-use Rattle.iot_machine.specs.Texts.{line, stopped_line, kept_line, lost_line, stop_line}
+use Rattle.iot_machine.specs.Texts.{line, stopped_line, restart_words, kept_as, lost_as, stop_line}
 
 -- ---- what may stop
 
@@ -27,19 +27,23 @@ Appends name change node text on n =
     ((text ≡ []) × (on ≡ true) × (n ≡ changed change node))
     ⊎ ((text ≡ stopped_line name) × (on ≡ false) × IsStopped (doubting change node) n)
 
--- Its disk was read: it is alive, with what is durable. If a record was in doubt, it was kept or it was lost, and what `says` tells of
--- the states before and after it follows a kept one.
-abbrev pub ComesBackWith : {S : Type 0} → List ℕ → (S → S → List ℕ) → Option S → Node S → List ℕ → Node S → Type 0
-ComesBackWith name says None node text n = (text ≡ line (codes "restart " ++ name)) × (n ≡ back node.durable node)
-ComesBackWith name says (Some after) node text n =
-    ((text ≡ kept_line name ++ says node.durable after) × (n ≡ back after node))
-    ⊎ ((text ≡ lost_line name) × (n ≡ back node.durable node))
+-- Its disk was read, at an event with these words: it is alive, with what is durable. If a record was in doubt, it was kept or it was lost,
+-- and what `says` tells of the states before and after it follows a kept one.
+abbrev pub SettlesAs : {S : Type 0} → (words : List ℕ) → (S → S → List ℕ) → Option S → Node S → List ℕ → Node S → Type 0
+SettlesAs words says None node text n = (text ≡ line words) × (n ≡ back node.durable node)
+SettlesAs words says (Some after) node text n =
+    ((text ≡ kept_as words ++ says node.durable after) × (n ≡ back after node))
+    ⊎ ((text ≡ lost_as words) × (n ≡ back node.durable node))
 
--- a node that is down comes back, and whether it did: else it has stopped again, and what was in doubt still is
-abbrev pub ComesBack : {S : Type 0} → List ℕ → (S → S → List ℕ) → Call (Node S) Bool
-ComesBack name says node text on n =
-    ((on ≡ true) × ComesBackWith name says node.doubt node text n)
+-- a node that is down comes back at such an event, and whether it did: else it has stopped again, and what was in doubt still is
+abbrev pub ComesBackAs : {S : Type 0} → (words name : List ℕ) → (S → S → List ℕ) → Call (Node S) Bool
+ComesBackAs words name says node text on n =
+    ((on ≡ true) × SettlesAs words says node.doubt node text n)
     ⊎ ((text ≡ stopped_line name) × (on ≡ false) × IsStopped node n)
+
+-- at `restart`
+abbrev pub ComesBack : {S : Type 0} → List ℕ → (S → S → List ℕ) → Call (Node S) Bool
+ComesBack name = ComesBackAs (restart_words name) name
 
 -- ---- calls without a choice of their own
 

@@ -115,13 +115,27 @@ lose_line name loss = line (codes "lose " ++ name ++ 32 ∷ loss_text loss)
 abbrev pub stopped_line : List ℕ → List ℕ
 stopped_line name = line (name ++ codes " stopped")
 
+-- the words of the line of a node that came back by `restart`
+abbrev pub restart_words : (name : List ℕ) → List ℕ
+restart_words name = codes "restart " ++ name
+
+-- those of a server that came back from its backup
+abbrev pub promote_words : List ℕ
+promote_words = codes "promote"
+
 -- a node came back, and the record that was in doubt was kept
-abbrev pub kept_line : List ℕ → List ℕ
-kept_line name = line (codes "restart " ++ name ++ codes " kept")
+abbrev pub kept_as : (words : List ℕ) → List ℕ
+kept_as words = line (words ++ codes " kept")
 
 -- or it was lost
-abbrev pub lost_line : List ℕ → List ℕ
-lost_line name = line (codes "restart " ++ name ++ codes " lost")
+abbrev pub lost_as : (words : List ℕ) → List ℕ
+lost_as words = line (words ++ codes " lost")
+
+abbrev pub kept_line : (name : List ℕ) → List ℕ
+kept_line name = kept_as (restart_words name)
+
+abbrev pub lost_line : (name : List ℕ) → List ℕ
+lost_line name = lost_as (restart_words name)
 
 abbrev pub pick_text : Pick → List ℕ
 pick_text Old = codes "old"

@@ -8,12 +8,13 @@ pub fn a_cut_is_its_prefix()
     ensures { ACutIsItsPrefix }
 {}
 
-/// In its opening a node stops at most once, and its disk's count of faults rises exactly if it does.
+/// In its opening a node stops at most once, and its count of faults rises exactly if it does.
 pub fn an_opening_is_counted()
     ensures { OpeningCounts }
 {}
 
-/// So in each event; and disks are armed by the events `stop` alone, each that of its node, with its call and its pick.
+/// So in each event; and disks are armed by the events `stop` alone, each that of its node, with its call and its pick. That `promote`
+/// gives up the server's first disk exactly if the server is down and has a backup is said there too.
 pub fn an_event_is_counted()
     ensures { EventCounts }
 {}

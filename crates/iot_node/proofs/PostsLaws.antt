@@ -3,13 +3,14 @@ use Rattle.std.proofs.Common.{◌≡◌, ℕ, ◌+◌, ◌==◌, Bool, true, fal
 use Rattle.std.proofs.Common.{◌∙◌, subst, inl, inr, arith, codes}
 use Rattle.std.proofs.lemmas.List.{append-nil}
 use Rattle.std.proofs.lemmas.Bool.Decides.{nat_tests}
-use Rattle.iot_node.specs.Prelude.{Rose, Medium, SameImages, armed_with, Pick, StartFault, Call, Node, Counts, opened, changed, doubting}
+use Rattle.iot_node.specs.Prelude.{Rose, Storing, armed_with, Pick, StartFault, Call, Node, Counts, opened, changed, doubting}
 use Rattle.iot_node.specs.Prelude.{back, armed, Refines, line, stopped_line, stop_line, Doubt, Fallen, Post, Up, Down, Between, next}
 use Rattle.iot_disk.specs.declared.faults.JournalFault.TheVariants as append
 use Rattle.iot_disk.specs.declared.faults.StartFault.TheVariants as start
-use Rattle.iot_machine.specs.Stops.{IsStopped, OpensNode, Appends, ComesBackWith, ComesBack, Crashes, ArmsDisk}
-use Rattle.iot_node.specs.Disks.{counts_on}
-use Rattle.iot_node.specs.Keeping.{Keeping, EachIs, Failed, Comes, Fails, Armed, Appended, Doubts, CountsStart}
+use Rattle.iot_machine.specs.Stops.{IsStopped, OpensNode, Appends, SettlesAs, ComesBackAs, Crashes, ArmsDisk}
+use Rattle.iot_node.specs.Disks.{counts_on, KeepsImages}
+use Rattle.iot_node.specs.Keeping.{Keeping, EachIs, Failed, IsEither, CanStart, HoldSame, Comes, Fails, Armed, Appended, Doubts}
+use Rattle.iot_node.specs.Keeping.{CountsStart}
 use Rattle.iot_node.specs.Posts.{is_on, disk_of, Ready, back_said, UpStands, HoldsBy, DownStands, PostStands, StepsFrom, HoldsEither, Lasts}
 use Rattle.iot_node.specs.Posts.{CameIf, IsStanding}
 use Rattle.iot_node.proofs.StepsLaws.{bind, asks, does, says_this}
@@ -40,7 +41,7 @@ next_number number count is =
 
 -- ---- the counts of a disk
 
-pub same_counts : {D : Type 0} (medium : Medium D) (old new : D) → medium.faults new ≡ medium.faults old
+pub same_counts : {D I : Type 0} (medium : Storing D I) (old new : D) → medium.faults new ≡ medium.faults old
     → medium.arms new ≡ medium.arms old → counts_on medium new ≡ counts_on medium old
 same_counts medium old new one other = λ i. record { faults = one i; arms = other i }
 
@@ -56,7 +57,7 @@ stops node before now same failed = (
   ap (λ arms. record { faults = now.faults; arms = arms }) (failed.arms ∙ ap (λ (c : Counts). c.arms) same),
 )
 
-module _ {K S D : Type 0} (keeping : Keeping K S D) (medium : Medium D) (says : S → S → List ℕ) where
+module _ {K S D I : Type 0} (keeping : Keeping K S D I) (medium : Storing D I) (says : S → S → List ℕ) where
   abbrev Stands : Post K D → Node S → Type 0
   Stands = PostStands keeping medium says
 
@@ -117,7 +118,7 @@ module _ {K S D : Type 0} (keeping : Keeping K S D) (medium : Medium D) (says : 
       bind post post post _ _ _ false tt (asks post _ false (λ node here. sym (on_is post node here ∙ down))) (says_this _ post _ _ wrote)
 
   pub post_crash_up : {keeper : K} (name : List ℕ) {x y : List ℕ}
-      → ((n : ℕ) (s : S) → keeping.stands keeper n s → EachIs (medium.may_leave (keeping.disk keeper)) (λ bytes. keeping.image bytes n s))
+      → ((n : ℕ) (s : S) → keeping.stands keeper n s → EachIs (medium.may_leave (keeping.disk keeper)) (λ image. keeping.image image n s))
       → y ≡ x ++ line (codes "crash " ++ name)
       → Refines Stands (Crashes name) (Up keeper) (Down (record { disk = keeping.disk keeper; doubt = None })) x y tt
   post_crash_up {keeper = keeper} name images wrote =
@@ -158,43 +159,49 @@ module _ {K S D : Type 0} (keeping : Keeping K S D) (medium : Medium D) (says : 
 
   -- ---- it comes back
 
-  -- its disk holds the same, if each image holds what one did before
-  holds_on : (was now : List ℕ → Type 0) (count : ℕ) (doubt : Option Doubt) (node : Node S) (counts : Counts) (stops : ℕ)
-      → ((bytes : List ℕ) → now bytes → (from : List ℕ) × was from
-      × ((k : ℕ) (s : S) → keeping.image from k s → keeping.image bytes k s))
+  -- these images hold what is durable, and what is in doubt, if those did
+  abbrev HoldOn : (was now : I → Type 0) → Type 0
+  HoldOn was now =
+      (n : ℕ) (s after : S) → (EachIs was (λ image. keeping.image image n s) → EachIs now (λ image. keeping.image image n s))
+      × (EachIs was (λ image. IsEither keeping image n s after) → EachIs now (λ image. IsEither keeping image n s after))
+
+  -- some of them do
+  pub fewer : (was now : I → Type 0) → ((image : I) → now image → was image) → HoldOn was now
+  fewer was now from n s after =
+      let each : (P : I → Type 0) → EachIs was P → EachIs now P = λ P all. record { each = λ image at. all.each image (from image at) } in
+      (each _, each _)
+
+  -- and those that hold what one of them did
+  one_of : (was now : I → Type 0) (image : I) → was image → HoldSame keeping image now → HoldOn was now
+  one_of was now image at same n s after = (
+    λ all. same.stand n s (all.each image at),
+    λ all. elim (all.each image at) [
+      | inl is ↦ record { each = λ other there. inl ((same.stand n s is).each other there) }
+      | inr is ↦ record { each = λ other there. inr ((same.turn n s after is).each other there) }
+    ],
+  )
+
+  pub holds_on : (was now : I → Type 0) (count : ℕ) (doubt : Option Doubt) (node : Node S) (counts : Counts) (stops : ℕ) → HoldOn was now
       → HoldsBy keeping medium says was count doubt node
       → HoldsBy keeping medium says now count doubt (record node { counts = counts; stops = stops })
-  holds_on was now count None node counts stops from it = record {
-    sure = it.sure;
-    each = record {
-      each = λ bytes at.
-          let image = from bytes at in
-          image.2 count node.durable (it.each.each image.0 image.1);
-    };
-  }
-  holds_on was now count (Some doubt) node counts stops from it = record {
+  holds_on was now count None node counts stops on it =
+      record { sure = it.sure; each = (on count node.durable node.durable).0 it.each }
+  holds_on was now count (Some doubt) node counts stops on it = record {
     after = it.after;
     is = it.is;
-    each = record {
-      each = λ bytes at.
-          let image = from bytes at in
-          elim (it.each.each image.0 image.1) [
-            | inl is ↦ inl (image.2 count node.durable is)
-            | inr is ↦ inr (image.2 (next count) it.after is)
-          ];
-    };
+    each = (on count node.durable it.after).1 it.each;
     counted = it.counted;
     lines = it.lines;
   }
 
-  pub post_back : {old disk : D} {made : K} {doubt : Option Doubt} {number : ℕ} (name : List ℕ) {x y : List ℕ}
+  pub post_back : {old disk : D} {made : K} {doubt : Option Doubt} {number : ℕ} (words name : List ℕ) {x y : List ℕ}
       → medium.may_leave old (medium.reads disk) → counts_on medium disk ≡ counts_on medium old → Comes keeping medium disk made
-      → ((n : ℕ) (s : S) → keeping.stands made n s → number ≡ n) → y ≡ x ++ back_said name doubt number
-      → Refines Stands (ComesBack name says) (Down (record { disk = old; doubt = doubt })) (Up made) x y true
-  post_back {old} {disk} {made} {doubt} {number} name image same comes counted wrote = record {
+      → ((n : ℕ) (s : S) → keeping.stands made n s → number ≡ n) → y ≡ x ++ back_said words doubt number
+      → Refines Stands (ComesBackAs words name says) (Down (record { disk = old; doubt = doubt })) (Up made) x y true
+  post_back {old} {disk} {made} {doubt} {number} words name image same comes counted wrote = record {
     step = λ node here.
         let back = returns node here.count doubt here.counts here.holds in
-        (back_said name doubt number, back.0, wrote, inl (refl, back.1), back.2);
+        (back_said words doubt number, back.0, wrote, inl (refl, back.1), back.2);
   }
     where
       -- with this state, that many records were read
@@ -206,7 +213,7 @@ module _ {K S D : Type 0} (keeping : Keeping K S D) (medium : Medium D) (says : 
       -- what it says, and the node that it is then
       returns : (node : Node S) (count : ℕ) (doubt : Option Doubt) → counts_on medium old ≡ node.counts
           → HoldsBy keeping medium says (medium.may_leave old) count doubt node
-          → (n : Node S) × ComesBackWith name says node.doubt node (back_said name doubt number) n × UpStands keeping medium says made n
+          → (n : Node S) × SettlesAs words says node.doubt node (back_said words doubt number) n × UpStands keeping medium says made n
       returns node count None counts it = (
         back node.durable node,
         rw it.sure (refl, refl),
@@ -221,7 +228,7 @@ module _ {K S D : Type 0} (keeping : Keeping K S D) (medium : Medium D) (says : 
               comes_with node node.durable count counts stands,
             )
         | inr is ↦
-            let stands = comes.from (next count) it.after is in
+            let stands = comes.turned count node.durable it.after is in
             let many = counted (next count) it.after stands in (
               back it.after node,
               rw it.is (inl (rw (next_number number doubt.count (many ∙ ap next (sym it.counted)), it.lines) refl, refl)),
@@ -252,7 +259,7 @@ module _ {K S D : Type 0} (keeping : Keeping K S D) (medium : Medium D) (says : 
   ))
 
   pub post_arms_down : {old new : D} {doubt : Option Doubt} {calls : ℕ} {pick : Pick} (name : List ℕ) {x y : List ℕ}
-      → SameImages (medium.may_leave old) (medium.may_leave new) → Armed medium calls pick old new
+      → KeepsImages (medium.may_leave old) (medium.may_leave new) → Armed medium calls pick old new
       → y ≡ x ++ stop_line name calls pick
       → Refines Stands (ArmsDisk name calls pick) (Down (record { disk = old; doubt = doubt }))
       (Down (record { disk = new; doubt = doubt }))
@@ -264,34 +271,34 @@ module _ {K S D : Type 0} (keeping : Keeping K S D) (medium : Medium D) (says : 
       counts = rearms calls pick node old new here.counts it;
       count = here.count;
       holds = holds_on (medium.may_leave old) (medium.may_leave new) here.count doubt node _ _
-          (λ bytes at. (bytes, same.was bytes at, λ k s is. is)) here.holds;
+          (fewer (medium.may_leave old) (medium.may_leave new) same.was) here.holds;
     },
   ))
 
   -- ---- what its disk holds after a start
 
   -- each image of a node that is down holds one of its states
-  pub holds_each : (fallen : Fallen D) (node : Node S) (down : DownStands keeping medium says fallen node) (bytes : List ℕ)
-      → medium.may_leave fallen.disk bytes → HoldsEither keeping medium down.count node bytes
-  holds_each fallen node down bytes left = by fallen.doubt down.holds
+  pub holds_each : (fallen : Fallen D) (node : Node S) (down : DownStands keeping medium says fallen node) (image : I)
+      → medium.may_leave fallen.disk image → HoldsEither keeping medium down.count node image
+  holds_each fallen node down image left = by fallen.doubt down.holds
     where
       by : (doubt : Option Doubt) → HoldsBy keeping medium says (medium.may_leave fallen.disk) down.count doubt node
-          → HoldsEither keeping medium down.count node bytes
-      by None it = inl (it.each.each bytes left)
-      by (Some doubt) it = elim (it.each.each bytes left) [
+          → HoldsEither keeping medium down.count node image
+      by None it = inl (it.each.each image left)
+      by (Some doubt) it = elim (it.each.each image left) [
         | inl is ↦ inl is
         | inr is ↦ inr (it.after, it.is, is)
       ]
 
   -- so does each of any node, if those of a live one do
   pub lasts_in : ((keeper : K) (n : ℕ) (s : S) → keeping.stands keeper n s
-      → EachIs (medium.may_leave (keeping.disk keeper)) (λ bytes. keeping.image bytes n s))
+      → EachIs (medium.may_leave (keeping.disk keeper)) (λ image. keeping.image image n s))
       → (post : Post K D) (node : Node S) → Stands post node → Lasts keeping medium post node
   lasts_in live (Up keeper) node here = record {
     disk = keeping.disk keeper;
     has = refl;
     count = here.count;
-    each = record { each = λ bytes left. inl ((live keeper here.count node.durable here.stands).each bytes left) };
+    each = record { each = λ image left. inl ((live keeper here.count node.durable here.stands).each image left) };
   }
   lasts_in live (Down fallen) node here =
       record { disk = fallen.disk; has = refl; count = here.count; each = record { each = holds_each fallen node here } }
@@ -312,29 +319,18 @@ module _ {K S D : Type 0} (keeping : Keeping K S D) (medium : Medium D) (says : 
       has = refl;
       count = down.count;
       each = record {
-        each = λ bytes at. elim read [
-          | inl is ↦ inl ((comes.images down.count node.durable is).each bytes at)
-          | inr it ↦ inr (it.0, it.1, (comes.images (next down.count) it.0 it.2).each bytes at)
+        each = λ image at. elim read [
+          | inl is ↦ inl ((comes.images.stand down.count node.durable is).each image at)
+          | inr it ↦ inr (it.0, it.1, (comes.images.turn down.count node.durable it.0 it.2).each image at)
         ];
       };
     }
 
-    -- a start that stopped
-    start_failed : {behind : D} {fault : StartFault} → Fails keeping medium disk behind fault → fault ≡ start.Stopped
-        → Failed (counts_on medium disk) (counts_on medium behind)
-    start_failed {behind} {fault} fails stopped =
-        let counts : CountsStart fault (counts_on medium disk) (counts_on medium behind) =
-        elim read [
-          | inl is ↦ fails.counts down.count node.durable is
-          | inr it ↦ fails.counts (next down.count) it.0 it.2
-        ] in
-        rw stopped at counts
-
     -- it came back from the image that the disk had then, which is said
-    pub came : {made : K} {number : ℕ} (name x y : List ℕ) → Comes keeping medium disk made
-        → ((n : ℕ) (s : S) → keeping.stands made n s → number ≡ n) → y ≡ x ++ back_said name fallen.doubt number
-        → CameIf keeping medium true post name x y node
-    came {number = number} name x y comes counted wrote =
+    pub came : {made : K} {number : ℕ} (words x y : List ℕ) → Comes keeping medium disk made
+        → ((n : ℕ) (s : S) → keeping.stands made n s → number ≡ n) → y ≡ x ++ back_said words fallen.doubt number
+        → CameIf keeping medium true post words x y node
+    came {number = number} words x y comes counted wrote =
         rw is
         (record {
           image = medium.reads disk;
@@ -342,22 +338,31 @@ module _ {K S D : Type 0} (keeping : Keeping K S D) (medium : Medium D) (says : 
           count = down.count;
           said = elim read [
             | inl is ↦ inl (said (counted down.count node.durable (comes.from down.count node.durable is)), is)
-            | inr it ↦ inr (it.0, said (counted (next down.count) it.0 (comes.from (next down.count) it.0 it.2)), it.1, it.2)
+            | inr it ↦ inr (it.0, said (counted (next down.count) it.0 (comes.turned down.count node.durable it.0 it.2)), it.1, it.2)
           ];
         })
       where
-        said : {n : ℕ} → number ≡ n → y ≡ x ++ back_said name fallen.doubt n
-        said is = wrote ∙ ap (λ k. x ++ back_said name fallen.doubt k) is
+        said : {n : ℕ} → number ≡ n → y ≡ x ++ back_said words fallen.doubt n
+        said is = wrote ∙ ap (λ k. x ++ back_said words fallen.doubt k) is
+
+module _ {K S D I : Type 0} (keeping : Keeping K S D I) (medium : Storing D I) {post : Post K D} {fallen : Fallen D} {disk : D}
+    (is : post ≡ Down fallen) (standing : IsStanding keeping medium post) (image : medium.may_leave fallen.disk (medium.reads disk)) where
+  -- what it reads as can be started
+  pub can_start : CanStart keeping (medium.reads disk)
+  can_start = elim (read keeping medium standing.says disk standing.node is standing.stands image) [
+    | inl it ↦ record { count = _; before = _; after = standing.node.durable; either = inl it }
+    | inr it ↦ record { count = _; before = _; after = _; either = inr it.2 }
+  ]
 
 -- it stops in a call that starts it
-pub post_stops_again : {K S D : Type 0} (keeping : Keeping K S D) (medium : Medium D) (says : S → S → List ℕ) (call : Call (Node S) Bool)
-    {post : Post K D} {fallen : Fallen D} {disk left : D} {fault : StartFault} (name : List ℕ) {x y : List ℕ} → post ≡ Down fallen
-    → IsStanding keeping medium post → medium.may_leave fallen.disk (medium.reads disk)
-    → counts_on medium disk ≡ counts_on medium fallen.disk → Fails keeping medium disk left fault → fault ≡ start.Stopped
+pub post_stops_again : {K S D I : Type 0} (keeping : Keeping K S D I) (medium : Storing D I) (says : S → S → List ℕ)
+    (call : Call (Node S) Bool) {post : Post K D} {fallen : Fallen D} {disk left : D} {fault : StartFault} (name : List ℕ) {x y : List ℕ}
+    → post ≡ Down fallen → medium.may_leave fallen.disk (medium.reads disk) → counts_on medium disk ≡ counts_on medium fallen.disk
+    → Fails keeping medium disk left fault → fault ≡ start.Stopped
     → ((node n : Node S) → IsStopped node n → call node (stopped_line name) false n) → y ≡ x ++ stopped_line name
     → Refines (PostStands keeping medium says) call post (Down (record { disk = left; doubt = fallen.doubt })) x y false
-post_stops_again keeping medium says call {post} {fallen} {disk} {left} {fault} name is standing image same fails stopped is_call
-    wrote = rw is (record {
+post_stops_again keeping medium says call {post} {fallen} {disk} {left} {fault} name is image same fails stopped is_call wrote =
+    rw is (record {
       step = λ node here. (
         stopped_line name,
         halted node (counts_on medium left),
@@ -368,10 +373,11 @@ post_stops_again keeping medium says call {post} {fallen} {disk} {left} {fault} 
           counts = (stops node _ _ (same ∙ here.counts) failed).1;
           count = here.count;
           holds = holds_on keeping medium says (medium.may_leave fallen.disk) (medium.may_leave left) here.count fallen.doubt node _ _
-              (λ bytes at. (medium.reads disk, image, λ k s is. (fails.images k s is).each bytes at)) here.holds;
+              (one_of keeping medium says (medium.may_leave fallen.disk) (medium.may_leave left) (medium.reads disk) image fails.images)
+              here.holds;
         },
       );
     })
   where
     failed : Failed (counts_on medium disk) (counts_on medium left)
-    failed = start_failed keeping medium standing.says disk standing.node is standing.stands image fails stopped
+    failed = subst (λ (f : StartFault). CountsStart f (counts_on medium disk) (counts_on medium left)) stopped fails.counts

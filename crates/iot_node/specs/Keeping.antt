@@ -1,20 +1,22 @@
--- What keeps a node's state on a disk, and what its calls do: how it reads its disk, and what its records are, are its own affair.
+-- What keeps a node's state on its disks, and what its calls do: how it reads them, and what its records are, are its own affair.
 use Rattle.std.specs.Prelude.{◌≡◌, ◌⊎◌}
-use Rattle.iot_node.specs.Prelude.{ℕ, List, Result, Ok, Err, Rose, Medium, armed_with, Pick, StartFault, JournalFault, Counts, Doubt}
+use Rattle.iot_node.specs.Prelude.{ℕ, List, Result, Ok, Err, Rose, Storing, armed_with, Pick, StartFault, JournalFault, Counts, Doubt}
 use Rattle.iot_node.specs.Prelude.{next}
 use Rattle.iot_disk.specs.declared.faults.StartFault.TheVariants as start
 use Rattle.iot_disk.specs.declared.faults.JournalFault.TheVariants as append
 use Rattle.iot_node.specs.Disks.{counts_on}
 
--- A keeper stands for this state, with so many records, counted modulo 2 ^ 64; so do these bytes of a disk; and the keeper's disk.
-pub record Keeping (K S D : Type 0) : Type 1 where
+-- For which state, with so many records, counted modulo 2 ^ 64, a keeper stands, and an image of its disks; which images are in the midst
+-- of one record more, behind so many, which turns the first state into the second; and the keeper's disks.
+pub record Keeping (K S D I : Type 0) : Type 1 where
   pub stands : K → ℕ → S → Type 0
-  pub image : List ℕ → ℕ → S → Type 0
+  pub image : I → ℕ → S → Type 0
+  pub turning : I → ℕ → S → S → Type 0
   pub disk : K → D
 
 -- each of these images is so
-pub record EachIs (images P : List ℕ → Type 0) : Type 0 where
-  pub each : (bytes : List ℕ) → images bytes → P bytes
+pub record EachIs {I : Type 0} (images P : I → Type 0) : Type 0 where
+  pub each : (image : I) → images image → P image
 
 -- one fault more, and not armed
 pub record Failed (before now : Counts) : Type 0 where
@@ -22,37 +24,53 @@ pub record Failed (before now : Counts) : Type 0 where
   pub arms : now.arms ≡ before.arms
 
 -- armed once more
-pub record Armed {D : Type 0} (medium : Medium D) (calls : ℕ) (pick : Pick) (old new : D) : Type 0 where
+pub record Armed {D I : Type 0} (medium : Storing D I) (calls : ℕ) (pick : Pick) (old new : D) : Type 0 where
   pub is : counts_on medium new ≡ record { faults = medium.faults old; arms = armed_with (medium.arms old) calls pick }
 
--- a start is not refused for what the disk holds
+-- a start is not refused for what the disks hold
 abbrev pub TakesBytes : StartFault → Type 0
 TakesBytes start.NoMemory = Unit {0}
 TakesBytes start.Stopped = Unit {0}
 TakesBytes start.Foreign = ⊥
 TakesBytes (start.Damaged at) = ⊥
 
--- what the disk of a start has counted that was stopped, or for which there was no memory
+-- what the disks of a start have counted that was stopped, or for which there was no memory
 abbrev pub CountsStart : StartFault → (before now : Counts) → Type 0
 CountsStart start.NoMemory before now = now ≡ before
 CountsStart start.Stopped before now = Failed before now
 CountsStart start.Foreign before now = ⊥
 CountsStart (start.Damaged at) before now = ⊥
 
-module _ {K S D : Type 0} (keeping : Keeping K S D) (medium : Medium D) where
-  -- what was started stands for what the disk stood for, and so does each image of its disk
+module _ {K S D I : Type 0} (keeping : Keeping K S D I) where
+  -- the image stands for this state, or is in the midst of the record behind it, which makes that one
+  abbrev pub IsEither : I → ℕ → S → S → Type 0
+  IsEither image n s after = keeping.image image n s ⊎ keeping.turning image n s after
+
+  -- an image that a keeper can be started from: it stands for some state, or is in the midst of some record
+  pub record CanStart (image : I) : Type 0 where
+    pub count : ℕ
+    pub before : S
+    pub after : S
+    pub either : IsEither image count before after
+
+  -- each of these images stands for what this one stands for, and is in the midst of that in whose midst this one is
+  pub record HoldSame (image : I) (images : I → Type 0) : Type 0 where
+    pub stand : (n : ℕ) (s : S) → keeping.image image n s → EachIs images (λ i. keeping.image i n s)
+    pub turn : (n : ℕ) (s after : S) → keeping.turning image n s after → EachIs images (λ i. keeping.turning i n s after)
+
+module _ {K S D I : Type 0} (keeping : Keeping K S D I) (medium : Storing D I) where
+  -- what was started stands for what the disks stood for, or for what the record makes in whose midst they were; each image still holds
+  -- what they held
   pub record Comes (disk : D) (made : K) : Type 0 where
     pub from : (n : ℕ) (s : S) → keeping.image (medium.reads disk) n s → keeping.stands made n s
-    pub images : (n : ℕ) (s : S) → keeping.image (medium.reads disk) n s
-        → EachIs (medium.may_leave (keeping.disk made)) (λ bytes. keeping.image bytes n s)
+    pub turned : (n : ℕ) (s after : S) → keeping.turning (medium.reads disk) n s after → keeping.stands made (next n) after
+    pub images : HoldSame keeping (medium.reads disk) (medium.may_leave (keeping.disk made))
     pub counts : counts_on medium (keeping.disk made) ≡ counts_on medium disk
 
-  -- a start that failed, from bytes that stand for a state: it was stopped, or there was no memory, and each image still stands for it
+  -- a start that failed: it was stopped, or there was no memory, and each image still holds what the disks held
   pub record Fails (disk left : D) (fault : StartFault) : Type 0 where
-    pub images : (n : ℕ) (s : S) → keeping.image (medium.reads disk) n s
-        → EachIs (medium.may_leave left) (λ bytes. keeping.image bytes n s)
-    pub counts : (n : ℕ) (s : S) → keeping.image (medium.reads disk) n s
-        → CountsStart fault (counts_on medium disk) (counts_on medium left)
+    pub images : HoldSame keeping (medium.reads disk) (medium.may_leave left)
+    pub counts : CountsStart fault (counts_on medium disk) (counts_on medium left)
 
   -- a call of its own that appends a record, by its answer, from this state: it makes this change
   abbrev pub Appended : {T : Type 0} → (S → S) → (s : S) → (old new : K) → Result T JournalFault → Type 0
@@ -62,11 +80,11 @@ module _ {K S D : Type 0} (keeping : Keeping K S D) (medium : Medium D) where
   Appended change s old new (Err append.NoMemory) = Unit {0}
   Appended change s old new (Err append.Stopped) =
       ((n : ℕ) → keeping.stands old n s
-      → EachIs (medium.may_leave (keeping.disk new)) (λ bytes. keeping.image bytes n s ⊎ keeping.image bytes (next n) (change s)))
+      → EachIs (medium.may_leave (keeping.disk new)) (λ image. IsEither keeping image n s (change s)))
       × Failed (counts_on medium (keeping.disk old)) (counts_on medium (keeping.disk new))
 
 -- how many records there were, and what this one would say
-pub record Doubts {K S D : Type 0} (keeping : Keeping K S D) (says : S → S → List ℕ) (change : S → S) (old : K) (doubt : Doubt)
+pub record Doubts {K S D I : Type 0} (keeping : Keeping K S D I) (says : S → S → List ℕ) (change : S → S) (old : K) (doubt : Doubt)
     : Type 0 where
   pub count : (n : ℕ) (s : S) → keeping.stands old n s → doubt.count ≡ n
   pub lines : (n : ℕ) (s : S) → keeping.stands old n s → doubt.lines ≡ says s (change s)

@@ -1,9 +1,10 @@
 -- Which node of the machine a node over a keeper stands for.
-use Rattle.std.specs.Prelude.{◌≡◌, ◌⊎◌, ◌==◌, if◌then◌else◌, Bool, true, false, ◌++◌, codes}
-use Rattle.iot_node.specs.Prelude.{ℕ, List, Option, None, Some, Result, Ok, Err, Medium, Only, JournalFault, Call, Node, line, kept_line}
-use Rattle.iot_node.specs.Prelude.{lost_line, Halt, NoMemory, Over, Doubt, Fallen, Post, Up, Down, Between, next}
-use Rattle.iot_node.specs.Disks.{counts_on}
-use Rattle.iot_node.specs.Keeping.{Keeping, EachIs}
+use Rattle.std.specs.Prelude.{◌≡◌, ◌⊎◌, ◌==◌, if◌then◌else◌, Bool, true, false, ◌++◌, codes, option_map}
+use Rattle.iot_node.specs.Prelude.{ℕ, List, Option, None, Some, Result, Ok, Err, Storing, JournalFault, Call, Node, line, kept_as, lost_as}
+use Rattle.iot_node.specs.Prelude.{Halt, NoMemory, Over, Doubt, Fallen, Post, Up, Down, Between, Comeback, next}
+use Rattle.iot_node.specs.declared.comeback.Comeback.TheVariants.{Restart, Promote}
+use Rattle.iot_node.specs.Disks.{counts_on, OnlyImage}
+use Rattle.iot_node.specs.Keeping.{Keeping, EachIs, IsEither}
 
 abbrev pub is_on : {K D : Type 0} → Post K D → Bool
 is_on (Up keeper) = true
@@ -27,16 +28,26 @@ live_of live (Up keeper) = Some (live keeper)
 live_of live (Down fallen) = None
 live_of live Between = None
 
+-- what its disk has besides
+abbrev pub beside_of : {K D B : Type 0} → (D → B) → (K → D) → Post K D → Option B
+beside_of beside disk post = option_map beside (disk_of disk post)
+
 -- never started, on a disk with one image
-abbrev pub Ready : {K D : Type 0} → Medium D → Post K D → Type 0
+abbrev pub Ready : {K D I : Type 0} → Storing D I → Post K D → Type 0
 Ready medium (Up keeper) = ⊥
-Ready medium (Down fallen) = (fallen.doubt ≡ None) × Only (medium.reads fallen.disk) (medium.may_leave fallen.disk)
+Ready medium (Down fallen) = (fallen.doubt ≡ None) × OnlyImage (medium.reads fallen.disk) (medium.may_leave fallen.disk)
 Ready medium Between = ⊥
 
--- What is said of one that is back with so many records, counted modulo 2 ^ 64: the one in doubt is lost if there are as many as before it.
-abbrev pub back_said : List ℕ → Option Doubt → (number : ℕ) → List ℕ
-back_said name None number = line (codes "restart " ++ name)
-back_said name (Some doubt) number = if number == doubt.count then lost_line name else kept_line name ++ doubt.lines
+-- what is said of a node of this name that comes back so
+abbrev pub words_of : Comeback → (name : List ℕ) → List ℕ
+words_of Restart name = codes "restart " ++ name
+words_of Promote name = codes "promote"
+
+-- What is said, after these words, of one that is back with so many records, counted modulo 2 ^ 64: the one in doubt is lost if there are
+-- as many as before it.
+abbrev pub back_said : (words : List ℕ) → Option Doubt → (number : ℕ) → List ℕ
+back_said words None number = line words
+back_said words (Some doubt) number = if number == doubt.count then lost_as words else kept_as words ++ doubt.lines
 
 -- the call that was answered so went on, or ended its event
 abbrev pub Answered : {T : Type 0} → (Bool → Type 0) → Result T JournalFault → Result T Halt → Type 0
@@ -48,7 +59,7 @@ Answered step answer (Err Over) = step false
 abbrev pub StepsFrom : {W M A : Type 0} → (W → M → Type 0) → Call M A → M → (new : W) → (x y : List ℕ) → A → Type 0
 StepsFrom {M = M} stands call node new x y a = (text : List ℕ) × (n : M) × (y ≡ x ++ text) × call node text a n × stands new n
 
-module _ {K S D : Type 0} (keeping : Keeping K S D) (medium : Medium D) (says : S → S → List ℕ) where
+module _ {K S D I : Type 0} (keeping : Keeping K S D I) (medium : Storing D I) (says : S → S → List ℕ) where
   pub record UpStands (keeper : K) (node : Node S) : Type 0 where
     pub alive : node.alive ≡ true
     pub sure : node.doubt ≡ None
@@ -56,18 +67,18 @@ module _ {K S D : Type 0} (keeping : Keeping K S D) (medium : Medium D) (says : 
     pub count : ℕ
     pub stands : keeping.stands keeper count node.durable
 
-  pub record Sure (images : List ℕ → Type 0) (count : ℕ) (node : Node S) : Type 0 where
+  pub record Sure (images : I → Type 0) (count : ℕ) (node : Node S) : Type 0 where
     pub sure : node.doubt ≡ None
-    pub each : EachIs images (λ bytes. keeping.image bytes count node.durable)
+    pub each : EachIs images (λ image. keeping.image image count node.durable)
 
-  pub record InDoubt (images : List ℕ → Type 0) (count : ℕ) (doubt : Doubt) (node : Node S) : Type 0 where
+  pub record InDoubt (images : I → Type 0) (count : ℕ) (doubt : Doubt) (node : Node S) : Type 0 where
     pub after : S
     pub is : node.doubt ≡ Some after
-    pub each : EachIs images (λ bytes. keeping.image bytes count node.durable ⊎ keeping.image bytes (next count) after)
+    pub each : EachIs images (λ image. IsEither keeping image count node.durable after)
     pub counted : doubt.count ≡ count
     pub lines : doubt.lines ≡ says node.durable after
 
-  abbrev pub HoldsBy : (images : List ℕ → Type 0) → ℕ → Option Doubt → Node S → Type 0
+  abbrev pub HoldsBy : (images : I → Type 0) → ℕ → Option Doubt → Node S → Type 0
   HoldsBy images count None node = Sure images count node
   HoldsBy images count (Some doubt) node = InDoubt images count doubt node
 
@@ -83,19 +94,19 @@ module _ {K S D : Type 0} (keeping : Keeping K S D) (medium : Medium D) (says : 
   PostStands Between node = ⊥
 
 -- it stands for some node
-pub record IsStanding {K S D : Type 0} (keeping : Keeping K S D) (medium : Medium D) (post : Post K D) : Type 0 where
+pub record IsStanding {K S D I : Type 0} (keeping : Keeping K S D I) (medium : Storing D I) (post : Post K D) : Type 0 where
   pub says : S → S → List ℕ
   pub node : Node S
   pub stands : PostStands keeping medium says post node
 
-module _ {K S D : Type 0} (keeping : Keeping K S D) (medium : Medium D) where
+module _ {K S D I : Type 0} (keeping : Keeping K S D I) (medium : Storing D I) where
   -- ---- what its disk holds, whatever became of a call
 
-  -- what is durable, or the state that is in doubt
-  abbrev pub HoldsEither : (count : ℕ) → Node S → List ℕ → Type 0
-  HoldsEither count node bytes =
-      keeping.image bytes count node.durable
-      ⊎ ((after : S) × (node.doubt ≡ Some after) × keeping.image bytes (next count) after)
+  -- what is durable, or that and the record in doubt, perhaps in its midst
+  abbrev pub HoldsEither : (count : ℕ) → Node S → I → Type 0
+  HoldsEither count node image =
+      keeping.image image count node.durable
+      ⊎ ((after : S) × (node.doubt ≡ Some after) × keeping.turning image count node.durable after)
 
   -- each image of its disk holds that
   pub record Lasts (post : Post K D) (node : Node S) : Type 0 where
@@ -107,14 +118,14 @@ module _ {K S D : Type 0} (keeping : Keeping K S D) (medium : Medium D) where
   -- ---- how it came back
 
   -- from one of the images that its disk might have: that decides whether the record in doubt was kept, and it is said
-  pub record CameFrom (fallen : Fallen D) (name x y : List ℕ) (node : Node S) : Type 0 where
-    pub image : List ℕ
+  pub record CameFrom (fallen : Fallen D) (words x y : List ℕ) (node : Node S) : Type 0 where
+    pub image : I
     pub left : medium.may_leave fallen.disk image
     pub count : ℕ
-    pub said : ((y ≡ x ++ back_said name fallen.doubt count) × keeping.image image count node.durable)
-        ⊎ ((after : S) × (y ≡ x ++ back_said name fallen.doubt (next count)) × (node.doubt ≡ Some after)
-        × keeping.image image (next count) after)
+    pub said : ((y ≡ x ++ back_said words fallen.doubt count) × keeping.image image count node.durable)
+        ⊎ ((after : S) × (y ≡ x ++ back_said words fallen.doubt (next count)) × (node.doubt ≡ Some after)
+        × keeping.turning image count node.durable after)
 
-  abbrev pub CameIf : (on : Bool) → Post K D → (name x y : List ℕ) → Node S → Type 0
-  CameIf true (Down fallen) name x y node = CameFrom fallen name x y node
-  CameIf on post name x y node = Unit {0}
+  abbrev pub CameIf : (on : Bool) → Post K D → (words x y : List ℕ) → Node S → Type 0
+  CameIf true (Down fallen) words x y node = CameFrom fallen words x y node
+  CameIf on post words x y node = Unit {0}

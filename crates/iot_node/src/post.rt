@@ -1,20 +1,21 @@
-//! A node over any keeper: alive, or down with its disk. Here alone a disk that fails becomes a stop.
+//! A node over any keeper: alive, or down with its disks. Here alone a disk that fails becomes a stop.
 ghost use Rattle.std.specs.Prelude.{◌≡◌, ◌++◌, ℕ, List, true, false, if◌then◌else◌, Option, Some, None, Ok, Err, IfOk, IfErr, OnOk};
 ghost use Rattle.std.specs.Prelude.{IsErrOf, IsSome};
 ghost use Rattle.iot_node.specs.Prelude.{Node, Refines, line, stopped_line, stop_line, pick_text, Over};
-ghost use Rattle.iot_machine.specs.Stops.{OpensNode, Appends, ComesBack, Crashes, ArmsDisk};
+ghost use Rattle.iot_machine.specs.Stops.{OpensNode, Appends, ComesBackAs, Crashes, ArmsDisk};
 ghost use Rattle.iot_disk.specs.declared.faults.JournalFault.TheVariants as append;
 ghost use Rattle.iot_disk.specs.declared.faults.StartFault.TheVariants.{Stopped};
 ghost use Rattle.iot_node.specs.Disks.{KeepsDisk};
 ghost use Rattle.iot_node.specs.Keeping.{EachIs, Appended, Doubts, TakesBytes};
-ghost use Rattle.iot_node.specs.Posts.{PostStands, is_on, is_fallen, disk_of, live_of, Ready, Answered, UpStands, StepsFrom, back_said};
-ghost use Rattle.iot_node.specs.Posts.{Lasts, CameIf, IsStanding};
+ghost use Rattle.iot_node.specs.Posts.{PostStands, is_on, is_fallen, disk_of, live_of, beside_of, Ready, Answered, UpStands, StepsFrom};
+ghost use Rattle.iot_node.specs.Posts.{words_of, back_said, Lasts, CameIf, IsStanding};
 ghost use Rattle.iot_text.specs.Texts.{Extends};
 
+use crate::comeback::Comeback;
 use crate::halt::Halt;
 use crate::keeper::Keeper;
 use crate::lines::say;
-use iot_disk::{Disk, JournalFault, Pick, StartFault};
+use iot_disk::{JournalFault, Pick, StartFault};
 use iot_text::{NoMemory, Text};
 use std::alloc::Global;
 use std::mem;
@@ -29,27 +30,27 @@ pub struct Doubt {
     pub lines: Text,
 }
 
-/// A node that is down: of all that it had only its disk is left, and what was in doubt when it stopped.
+/// A node that is down: of all that it had only its disks are left, and what was in doubt when it stopped.
 #[derive(Drop)]
-pub struct Fallen<D> {
-    pub disk: D,
+pub struct Fallen<P> {
+    pub disk: P,
     pub doubt: Option<Doubt>,
 }
 
 /// A node, alive or down.
 #[derive(Drop)]
-pub enum Post<K, D> {
+pub enum Post<K, P> {
     /// Alive.
     Up(K),
 
     /// Down.
-    Down(Fallen<D>),
+    Down(Fallen<P>),
 
     /// Inside a call that starts or stops it.
     Between,
 }
 
-impl<K: Keeper<D>, D: Disk> Post<K, D> {
+impl<K: Keeper<P>, P> Post<K, P> {
     ghost use Rattle.iot_node.specs.declared.post.Post.TheVariants.{Up, Down, Between};
 
     /// Whether it is alive.
@@ -67,15 +68,16 @@ impl<K: Keeper<D>, D: Disk> Post<K, D> {
         name: &[u8],
         out: &mut Text,
     ) -> Result<bool, NoMemory>
-        requires ready { Ready D.medium self.old }
-        requires stands { IsStanding (K.keeping place) D.medium self.old }
+        requires ready { Ready K.medium self.old }
+        requires stands { IsStanding (K.keeping place) K.medium self.old }
         ensures step { IfOk result (λ on. (says : K.Kept → K.Kept → List ℕ)
-            → Refines (PostStands (K.keeping place) D.medium says) (OpensNode name.now) self.old self.new out.old out.new on) }
+            → Refines (PostStands (K.keeping place) K.medium says) (OpensNode name.now) self.old self.new out.old out.new on) }
         ensures on { IfOk result (λ on. is_on self.new ≡ on) }
         ensures live { IfOk result (λ on. live_of K.live self.new ≡ if on then Some K.fresh else None) }
-        ensures disk { KeepsDisk D.medium (disk_of (K.keeping place).disk self.old) (disk_of (K.keeping place).disk self.new) }
+        ensures disk { KeepsDisk K.medium (disk_of (K.keeping place).disk self.old) (disk_of (K.keeping place).disk self.new) }
+        ensures beside { beside_of K.beside (K.keeping place).disk self.new ≡ beside_of K.beside (K.keeping place).disk self.old }
         ensures lasts { (says : K.Kept → K.Kept → List ℕ) (node : Node K.Kept)
-            → PostStands (K.keeping place) D.medium says self.old node → Lasts (K.keeping place) D.medium self.new node }
+            → PostStands (K.keeping place) K.medium says self.old node → Lasts (K.keeping place) K.medium self.new node }
         ensures text { Extends out.old out.new }
     {
         match mem::replace(self, Post::Between) {
@@ -106,10 +108,10 @@ impl<K: Keeper<D>, D: Disk> Post<K, D> {
         requires { is_on self.old ≡ true }
         ensures step { (place : ℕ) (old new : K) (says : K.Kept → K.Kept → List ℕ) (change : K.Kept → K.Kept) (node : Node K.Kept)
             → self.old ≡ Up new
-            → UpStands (K.keeping place) D.medium says old node
-            → Appended (K.keeping place) D.medium change node.durable old new answer
+            → UpStands (K.keeping place) K.medium says old node
+            → Appended (K.keeping place) K.medium change node.durable old new answer
             → Doubts (K.keeping place) says change old doubt
-            → Answered (StepsFrom (PostStands (K.keeping place) D.medium says) (Appends name.now change) node self.new out.old out.new)
+            → Answered (StepsFrom (PostStands (K.keeping place) K.medium says) (Appends name.now change) node self.new out.old out.new)
             answer result }
         ensures answers { IfOk result (λ done. answer ≡ Ok done) }
         ensures same { OnOk result (self.new ≡ self.old) }
@@ -139,7 +141,7 @@ impl<K: Keeper<D>, D: Disk> Post<K, D> {
         ensures off { is_on self.new ≡ false }
         ensures disk { (place : ℕ) → disk_of (K.keeping place).disk self.new ≡ disk_of (K.keeping place).disk self.old }
         ensures images { (place n : ℕ) (keeper : K) (s : K.Kept) → self.old ≡ Up keeper → (K.keeping place).stands keeper n s
-            → EachIs (D.medium.may_leave ((K.keeping place).disk keeper)) (λ bytes. (K.keeping place).image bytes n s) }
+            → EachIs (K.medium.may_leave ((K.keeping place).disk keeper)) (λ image. (K.keeping place).image image n s) }
     {
         match mem::replace(self, Post::Between) {
             Post::Up(keeper) => {
@@ -153,7 +155,7 @@ impl<K: Keeper<D>, D: Disk> Post<K, D> {
     }
 
     /// Becomes this at the end of a call that starts or stops it. Inside that call it owns nothing, so that no disk is lost.
-    fn turn_to(&mut self, post: Post<K, D>)
+    pub fn turn_to(&mut self, post: Post<K, P>)
         requires { self.old ≡ Between }
         ensures { self.new ≡ post }
     {
@@ -163,10 +165,10 @@ impl<K: Keeper<D>, D: Disk> Post<K, D> {
         }
     }
 
-    /// Loses its memory: what is not on its disk is gone.
+    /// Loses its memory: what is not on its disks is gone.
     pub fn crash(&mut self, name: &[u8], out: &mut Text) -> Result<(), NoMemory>
         ensures step { OnOk result ((place : ℕ) (says : K.Kept → K.Kept → List ℕ)
-            → Refines (PostStands (K.keeping place) D.medium says) (Crashes name.now) self.old self.new out.old out.new tt) }
+            → Refines (PostStands (K.keeping place) K.medium says) (Crashes name.now) self.old self.new out.old out.new tt) }
         ensures down { OnOk result (is_on self.new ≡ false) }
         ensures disk { (place : ℕ) → disk_of (K.keeping place).disk self.new ≡ disk_of (K.keeping place).disk self.old }
     {
@@ -179,38 +181,41 @@ impl<K: Keeper<D>, D: Disk> Post<K, D> {
         Ok(())
     }
 
-    /// Comes back, at its place among its kind, from one of the images that its disk may have, and tells whether it did. Else it has
+    /// Comes back so, at its place among its kind, from one of the images that its disks may have, and tells whether it did. Else it has
     /// stopped again, which is said, and what was in doubt still is.
     pub fn come_back(
         &mut self,
         alloc: Global,
+        by: Comeback,
         place: u64,
         name: &[u8],
         out: &mut Text,
     ) -> Result<bool, NoMemory>
         requires down { is_fallen self.old ≡ true }
-        requires stands { IsStanding (K.keeping place) D.medium self.old }
+        requires stands { IsStanding (K.keeping place) K.medium self.old }
         ensures step { IfOk result (λ on. (says : K.Kept → K.Kept → List ℕ)
-            → Refines (PostStands (K.keeping place) D.medium says) (ComesBack name.now says) self.old self.new out.old out.new on) }
+            → Refines (PostStands (K.keeping place) K.medium says) (ComesBackAs (words_of by name.now) name.now says)
+            self.old self.new out.old out.new on) }
 
         // The image that it came back from decides whether the record in doubt was kept.
         ensures came { IfOk result (λ on. (says : K.Kept → K.Kept → List ℕ) (node : Node K.Kept)
-            → PostStands (K.keeping place) D.medium says self.old node
-            → CameIf (K.keeping place) D.medium on self.old name.now out.old out.new node) }
+            → PostStands (K.keeping place) K.medium says self.old node
+            → CameIf (K.keeping place) K.medium on self.old (words_of by name.now) out.old out.new node) }
         ensures on { IfOk result (λ on. is_on self.new ≡ on) }
         ensures live { IfOk result (λ on. live_of K.live self.new ≡ if on then Some K.fresh else None) }
-        ensures disk { KeepsDisk D.medium (disk_of (K.keeping place).disk self.old) (disk_of (K.keeping place).disk self.new) }
+        ensures disk { KeepsDisk K.medium (disk_of (K.keeping place).disk self.old) (disk_of (K.keeping place).disk self.new) }
+        ensures beside { beside_of K.beside (K.keeping place).disk self.new ≡ beside_of K.beside (K.keeping place).disk self.old }
         ensures lasts { (says : K.Kept → K.Kept → List ℕ) (node : Node K.Kept)
-            → PostStands (K.keeping place) D.medium says self.old node → Lasts (K.keeping place) D.medium self.new node }
+            → PostStands (K.keeping place) K.medium says self.old node → Lasts (K.keeping place) K.medium self.new node }
     {
         match mem::replace(self, Post::Between) {
             Post::Down(Fallen { mut disk, doubt }) => {
-                disk.restart();
+                K::restart(&mut disk);
                 match K::start(alloc, disk, place) {
                     Ok(keeper) => {
                         let number = keeper.records();
                         self.turn_to(Post::Up(keeper));
-                        say_back(doubt, number, name, out)?;
+                        say_back(doubt, number, by, name, out)?;
                         Ok(true)
                     }
                     Err((disk, fault)) => {
@@ -224,7 +229,7 @@ impl<K: Keeper<D>, D: Disk> Post<K, D> {
         }
     }
 
-    /// Makes a later call of its disk fail, and says so.
+    /// Makes a later call of its disks fail, and says so.
     pub fn arm(
         &mut self,
         calls: u64,
@@ -233,23 +238,25 @@ impl<K: Keeper<D>, D: Disk> Post<K, D> {
         out: &mut Text,
     ) -> Result<(), NoMemory>
         ensures step { OnOk result ((place : ℕ) (says : K.Kept → K.Kept → List ℕ)
-            → Refines (PostStands (K.keeping place) D.medium says) (ArmsDisk name.now calls pick)
+            → Refines (PostStands (K.keeping place) K.medium says) (ArmsDisk name.now calls pick)
             self.old self.new out.old out.new tt) }
         ensures live { live_of K.live self.new ≡ live_of K.live self.old }
+        ensures beside { (place : ℕ)
+            → beside_of K.beside (K.keeping place).disk self.new ≡ beside_of K.beside (K.keeping place).disk self.old }
         ensures same { IfErr result (λ _. self.new ≡ self.old) }
         ensures text { Extends out.old out.new }
     {
         say_stop(name, calls, pick, out)?;
         match self {
             Post::Up(keeper) => keeper.arm(calls, pick),
-            Post::Down(fallen) => fallen.disk.arm(calls, pick),
+            Post::Down(fallen) => K::arm_down(&mut fallen.disk, calls, pick),
             Post::Between => (),
         }
         Ok(())
     }
 
-    /// Gives its disk back.
-    pub fn into_disk(self) -> D
+    /// Gives its disks back.
+    pub fn into_disk(self) -> P
         requires { (place : ℕ) → IsSome (disk_of (K.keeping place).disk self) }
         ensures { (place : ℕ) → disk_of (K.keeping place).disk self ≡ Some result }
     {
@@ -295,12 +302,17 @@ fn say_refused(fault: StartFault, name: &[u8], out: &mut Text) -> Result<(), NoM
     }
 }
 
-/// That it is back with so many records, and what became of the one that was in doubt.
-fn say_back(doubt: Option<Doubt>, number: u64, name: &[u8], out: &mut Text) -> Result<(), NoMemory>
-    ensures { OnOk result (out.new ≡ out.old ++ back_said name.now doubt number) }
+/// That it is back so with so many records, and what became of the one that was in doubt.
+fn say_back(
+    doubt: Option<Doubt>,
+    number: u64,
+    by: Comeback,
+    name: &[u8],
+    out: &mut Text,
+) -> Result<(), NoMemory>
+    ensures { OnOk result (out.new ≡ out.old ++ back_said (words_of by name.now) doubt number) }
 {
-    out.append(b"restart ")?;
-    out.append(name)?;
+    by.say(name, out)?;
     let Some(doubt) = doubt else {
         out.push(b'\n')?;
         return Ok(());
@@ -315,7 +327,7 @@ fn say_back(doubt: Option<Doubt>, number: u64, name: &[u8], out: &mut Text) -> R
 }
 
 /// `stop NODE K PICK`.
-fn say_stop(name: &[u8], calls: u64, pick: Pick, out: &mut Text) -> Result<(), NoMemory>
+pub fn say_stop(name: &[u8], calls: u64, pick: Pick, out: &mut Text) -> Result<(), NoMemory>
     ensures says { OnOk result (out.new ≡ out.old ++ stop_line name.now calls pick) }
     ensures text { Extends out.old out.new }
 {

@@ -1,5 +1,7 @@
+pub mod AloneLaws
 mod CopiesLaws
 mod ChangesLaws
+mod FaultsLaws
+mod LeavingLaws
 mod RepliesLaws
 mod StandingLaws
-mod FaultsLaws

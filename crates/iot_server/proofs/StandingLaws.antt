@@ -9,10 +9,8 @@ use Rattle.iot_disk.specs.Disk.{Medium}
 use Rattle.iot_limits.proofs.AnswerLaws.{tree_answers}
 use Rattle.iot_limits.proofs.TreesLaws.{tree_spelled}
 use Rattle.iot_limits.specs.Spelled.{IsSpelledTree}
-use Rattle.iot_store.specs.Standing.{EachStays}
-use Rattle.iot_store.specs.Store.{IsSynced, count_of, encoded_on, state_of, disk_of}
+use Rattle.iot_store.specs.Store.{IsSynced, state_of}
 use Rattle.iot_store.specs.declared.store.Store.{Store}
-use Rattle.iot_store.proofs.StandingLaws.{store_stays}
 use Rattle.iot_tree.specs.Tree.{Nodes}
 use Rattle.iot_tree.specs.declared.access.Access.{Access}
 use Rattle.iot_tree.specs.declared.questions.Answer.{Answer}
@@ -22,11 +20,6 @@ use Rattle.iot_tree.specs.declared.questions.Answer.{Answer}
 module _ {D : Type 0} (medium : Medium D) (store : Store D) (synced : IsSynced medium store) where
   pub store_spelled : IsSpelledTree (state_of store).tree
   store_spelled = tree_spelled (state_of store).tree synced.sound.tree
-
-  -- a disk that is still its own stands for its state
-  pub still_stays : (disk : D) → disk ≡ disk_of store
-      → EachStays (medium.may_leave disk) (count_of store) (encoded_on medium store) (state_of store)
-  still_stays disk same = rw same (store_stays medium store synced)
 
 -- ---- answers
 

@@ -1,15 +1,20 @@
 -- What the server answers.
 use Rattle.std.specs.Prelude.{◌≡◌, ◌⊎◌, ℕ, ◌+◌, List, [], length, Option, Some, None}
 use Rattle.iot_access.specs.Access.{FitInTurn}
+use Rattle.iot_backup.specs.Parts.{Changes}
 use Rattle.iot_certify.specs.Verdicts.{IsVerdictOnAccess}
 use Rattle.iot_certify.specs.declared.verdict.Verdict.{Verdict}
 use Rattle.iot_certify.specs.declared.verdict.Verdict.TheVariants.{Holds, Differs}
+use Rattle.iot_disk.specs.Disk.{Medium}
 use Rattle.iot_hoard.specs.Picking.{IsPick}
 use Rattle.iot_slots.specs.Decoding.{State as Encoded}
+use Rattle.iot_slots.specs.Slots.{state_on}
 use Rattle.iot_stamp.specs.Refresh.{changes_for, changes_on}
 use Rattle.iot_store.specs.Numbers.{number_in}
 use Rattle.iot_store.specs.Standing.{IsGrown}
 use Rattle.iot_store.specs.States.{State, after_commit}
+use Rattle.iot_store.specs.Store.{encoded_on, second_of, state_of}
+use Rattle.iot_store.specs.declared.store.Store.{Store}
 use Rattle.iot_tree.specs.Snapshots.{has}
 use Rattle.iot_tree.specs.Tree.{Path}
 use Rattle.iot_tree.specs.declared.access.Access.{Access}
@@ -63,6 +68,12 @@ pub record IsAnswered (before : State) (was : Encoded) (request : Request) (byte
   pub answers : Answers before request reply after
   pub encodes : EncodesAfter request reply before was now
   pub spelled : IsMessage IsReply reply_spelling bytes reply
+
+-- the same over the disks of a store
+pub record AreAnswered {D : Type 0} (medium : Medium D) (request : Request) (bytes : List ℕ) (old new : Store D) : Type 0 where
+  pub first : IsAnswered (state_of old) (encoded_on medium old) request bytes (state_of new) (encoded_on medium new)
+  pub second : Changes (λ was now. IsAnswered (state_of old) (state_on medium was) request bytes (state_of new) (state_on medium now))
+      (second_of old) (second_of new)
 
 -- bytes that are the spelling of a request are answered by bytes that are the spelling of its reply
 pub record IsHandled (before : State) (was : Encoded) (asked bytes : List ℕ) (after : State) (now : Encoded) : Type 0 where

@@ -1,18 +1,17 @@
 //! The reply to a request.
-ghost use Rattle.std.specs.Prelude.{◌≡◌, ◌+◌, IfOk, OnOk, IsErrOf, None, length};
+ghost use Rattle.std.specs.Prelude.{◌≡◌, ◌+◌, IfOk, OnOk, None, length};
 ghost use Rattle.iot_access.specs.Access.{FitInTurn};
 ghost use Rattle.iot_acts.specs.Traces.{ReadsHold};
 ghost use Rattle.iot_certify.specs.Verdicts.{IsVerdictOnAccess};
 ghost use Rattle.iot_views.specs.Rules.{AreKnown};
-ghost use Rattle.iot_disk.specs.Faults.{CountsJournalFault};
-ghost use Rattle.iot_server.specs.Faults.{CutsOff};
+ghost use Rattle.iot_server.specs.Faults.{Leaves};
 ghost use Rattle.iot_server.specs.Copies.{commit_of};
-ghost use Rattle.iot_server.specs.Replies.{IsAnswered};
+ghost use Rattle.iot_server.specs.Replies.{AreAnswered, IsAnswered};
+ghost use Rattle.iot_slots.specs.Decoding.{State as Encoded};
 ghost use Rattle.iot_store.specs.Numbers.{number_in};
 ghost use Rattle.iot_store.specs.Records.{IsRecord};
 ghost use Rattle.iot_store.specs.Rules.{IsCommit};
-ghost use Rattle.iot_store.specs.Standing.{EachStays};
-ghost use Rattle.iot_store.specs.Store.{state_of, disk_of, count_of, encoded_on, IsSynced};
+ghost use Rattle.iot_store.specs.Store.{state_of, IsSynced};
 ghost use Rattle.iot_tree.specs.declared.questions.Answer.TheVariants.{Away};
 ghost use Rattle.iot_wire.specs.Lent.{request_of, request_seen};
 ghost use Rattle.iot_wire.specs.Messages.{IsMessage};
@@ -31,7 +30,7 @@ use iot_tree::{Access, Answer, Known, Profile, Tree, Want};
 use iot_wire::{CommitView, Reply, Request, RequestView, read_request, write_reply};
 use std::alloc::Global;
 
-/// Answers the request with these bytes. A commit is on the disk when this gives its reply.
+/// Answers the request with these bytes. A commit is on both disks when this gives its reply.
 pub(crate) fn answer<D: Disk>(
     alloc: Global,
     store: &mut Store<D>,
@@ -40,15 +39,9 @@ pub(crate) fn answer<D: Disk>(
 ) -> Result<Vec<u8>, JournalFault>
     requires synced { IsSynced D.medium store.old }
     requires asked { IsMessage IsRequest request_spelling bytes.now (request_seen request.now) }
-    ensures answered { IfOk result (λ bytes. IsAnswered (state_of store.old) (encoded_on D.medium store.old)
-        (request_seen request.now) bytes.items (state_of store.new) (encoded_on D.medium store.new)) }
+    ensures answered { IfOk result (λ bytes. AreAnswered D.medium (request_seen request.now) bytes.items store.old store.new) }
     ensures synced { OnOk result (IsSynced D.medium store.new) }
-    ensures stopped { IsErrOf result JournalFault.Stopped → CutsOff (λ (asked : Asked). asked ≡ request_seen request.now)
-        (state_of store.old) (count_of store.old) (encoded_on D.medium store.old) (D.medium.may_leave (disk_of store.new)) }
-    ensures no_memory { IsErrOf result JournalFault.NoMemory → EachStays (D.medium.may_leave (disk_of store.new))
-        (count_of store.old) (encoded_on D.medium store.old) (state_of store.old) }
-    ensures faults { CountsJournalFault result (D.medium.faults (disk_of store.old)) (D.medium.faults (disk_of store.new)) }
-    ensures arms { D.medium.arms (disk_of store.new) ≡ D.medium.arms (disk_of store.old) }
+    ensures leaves { Leaves D.medium (λ (asked : Asked). asked ≡ request_seen request.now) result store.old store.new }
 {
     match request {
         RequestView::Refresh {
@@ -75,9 +68,8 @@ fn lend<D: Disk>(
 ) -> Result<Vec<u8>, NoMemory>
     requires synced { IsSynced D.medium store.now }
     requires known { AreKnown known.now }
-    ensures { (client : _) → IfOk result (λ bytes.
-        IsAnswered (state_of store.now) (encoded_on D.medium store.now) (Refresh client known.now want.now) bytes.items
-        (state_of store.now) (encoded_on D.medium store.now)) }
+    ensures { (client : _) (was : Encoded) → IfOk result (λ bytes.
+        IsAnswered (state_of store.now) was (Refresh client known.now want.now) bytes.items (state_of store.now) was) }
 {
     let changes = store.stamped().changed(alloc, known.as_slice(), want)?;
     write_reply(alloc, &Reply::Objects(changes))
@@ -91,9 +83,8 @@ fn walk<D: Disk>(
     limit: u64,
 ) -> Result<Vec<u8>, NoMemory>
     requires { IsSynced D.medium store.now }
-    ensures { (client : _) → IfOk result (λ bytes.
-        IsAnswered (state_of store.now) (encoded_on D.medium store.now) (Walk client profile.now limit) bytes.items
-        (state_of store.now) (encoded_on D.medium store.now)) }
+    ensures { (client : _) (was : Encoded) → IfOk result (λ bytes.
+        IsAnswered (state_of store.now) was (Walk client profile.now limit) bytes.items (state_of store.now) was) }
 {
     let paths = pick(alloc, store.tree(), profile, limit)?;
     let changes = store.stamped().listed(alloc, paths.as_slice())?;
@@ -109,16 +100,9 @@ fn submit<D: Disk>(
 ) -> Result<Vec<u8>, JournalFault>
     requires synced { IsSynced D.medium store.old }
     requires asked { IsMessage IsRequest request_spelling body.now (request_of commit.now) }
-    ensures answered { IfOk result (λ bytes. IsAnswered (state_of store.old) (encoded_on D.medium store.old)
-        (request_of commit.now) bytes.items (state_of store.new) (encoded_on D.medium store.new)) }
+    ensures answered { IfOk result (λ bytes. AreAnswered D.medium (request_of commit.now) bytes.items store.old store.new) }
     ensures synced { OnOk result (IsSynced D.medium store.new) }
-    ensures stopped { IsErrOf result JournalFault.Stopped
-        → CutsOff (λ (asked : Asked). asked ≡ request_of commit.now)
-        (state_of store.old) (count_of store.old) (encoded_on D.medium store.old) (D.medium.may_leave (disk_of store.new)) }
-    ensures no_memory { IsErrOf result JournalFault.NoMemory → EachStays (D.medium.may_leave (disk_of store.new))
-        (count_of store.old) (encoded_on D.medium store.old) (state_of store.old) }
-    ensures faults { CountsJournalFault result (D.medium.faults (disk_of store.old)) (D.medium.faults (disk_of store.new)) }
-    ensures arms { D.medium.arms (disk_of store.new) ≡ D.medium.arms (disk_of store.old) }
+    ensures leaves { Leaves D.medium (λ (asked : Asked). asked ≡ request_of commit.now) result store.old store.new }
 {
     match number_of(store, commit) {
         Some(number) => Ok(write_reply(alloc, &Reply::Already { number })?),
@@ -145,16 +129,9 @@ fn judge<D: Disk>(
     requires synced { IsSynced D.medium store.old }
     requires asked { IsMessage IsRequest request_spelling body.now (request_of commit.now) }
     requires new { number_in (state_of store.old).labels commit.now.0.client commit.now.0.tid ≡ None }
-    ensures answered { IfOk result (λ bytes. IsAnswered (state_of store.old) (encoded_on D.medium store.old)
-        (request_of commit.now) bytes.items (state_of store.new) (encoded_on D.medium store.new)) }
+    ensures answered { IfOk result (λ bytes. AreAnswered D.medium (request_of commit.now) bytes.items store.old store.new) }
     ensures synced { OnOk result (IsSynced D.medium store.new) }
-    ensures stopped { IsErrOf result JournalFault.Stopped
-        → CutsOff (λ (asked : Asked). asked ≡ request_of commit.now)
-        (state_of store.old) (count_of store.old) (encoded_on D.medium store.old) (D.medium.may_leave (disk_of store.new)) }
-    ensures no_memory { IsErrOf result JournalFault.NoMemory → EachStays (D.medium.may_leave (disk_of store.new))
-        (count_of store.old) (encoded_on D.medium store.old) (state_of store.old) }
-    ensures faults { CountsJournalFault result (D.medium.faults (disk_of store.old)) (D.medium.faults (disk_of store.new)) }
-    ensures arms { D.medium.arms (disk_of store.new) ≡ D.medium.arms (disk_of store.old) }
+    ensures leaves { Leaves D.medium (λ (asked : Asked). asked ≡ request_of commit.now) result store.old store.new }
 {
     match verdict(alloc, store.tree(), commit)? {
         Verdict::Holds => commit_copied(alloc, store, commit, body),
@@ -182,16 +159,9 @@ fn commit_copied<D: Disk>(
     requires asked { IsMessage IsRequest request_spelling body.now (request_of commit.now) }
     requires new { number_in (state_of store.old).labels commit.now.0.client commit.now.0.tid ≡ None }
     requires holds { ReadsHold (state_of store.old).tree commit.now.1.0.reads }
-    ensures answered { IfOk result (λ bytes. IsAnswered (state_of store.old) (encoded_on D.medium store.old)
-        (request_of commit.now) bytes.items (state_of store.new) (encoded_on D.medium store.new)) }
+    ensures answered { IfOk result (λ bytes. AreAnswered D.medium (request_of commit.now) bytes.items store.old store.new) }
     ensures synced { OnOk result (IsSynced D.medium store.new) }
-    ensures stopped { IsErrOf result JournalFault.Stopped
-        → CutsOff (λ (asked : Asked). asked ≡ request_of commit.now)
-        (state_of store.old) (count_of store.old) (encoded_on D.medium store.old) (D.medium.may_leave (disk_of store.new)) }
-    ensures no_memory { IsErrOf result JournalFault.NoMemory → EachStays (D.medium.may_leave (disk_of store.new))
-        (count_of store.old) (encoded_on D.medium store.old) (state_of store.old) }
-    ensures faults { CountsJournalFault result (D.medium.faults (disk_of store.old)) (D.medium.faults (disk_of store.new)) }
-    ensures arms { D.medium.arms (disk_of store.new) ≡ D.medium.arms (disk_of store.old) }
+    ensures leaves { Leaves D.medium (λ (asked : Asked). asked ≡ request_of commit.now) result store.old store.new }
 {
     let copy = copied(alloc, commit, body)?;
     commit_if_fit(alloc, store, copy, body)
@@ -231,16 +201,10 @@ fn commit_if_fit<D: Disk>(
     requires recorded { IsRecord body.now commit.label commit.access commit.lines }
     requires new { number_in (state_of store.old).labels commit.label.client commit.label.tid ≡ None }
     requires holds { ReadsHold (state_of store.old).tree commit.access.reads }
-    ensures answered { IfOk result (λ bytes. IsAnswered (state_of store.old) (encoded_on D.medium store.old)
-        (Asks commit.label commit.access commit.lines) bytes.items (state_of store.new) (encoded_on D.medium store.new)) }
+    ensures answered { IfOk result (λ bytes. AreAnswered D.medium (Asks commit.label commit.access commit.lines) bytes.items
+        store.old store.new) }
     ensures synced { OnOk result (IsSynced D.medium store.new) }
-    ensures stopped { IsErrOf result JournalFault.Stopped
-        → CutsOff (λ (asked : Asked). asked ≡ Asks commit.label commit.access commit.lines)
-        (state_of store.old) (count_of store.old) (encoded_on D.medium store.old) (D.medium.may_leave (disk_of store.new)) }
-    ensures no_memory { IsErrOf result JournalFault.NoMemory → EachStays (D.medium.may_leave (disk_of store.new))
-        (count_of store.old) (encoded_on D.medium store.old) (state_of store.old) }
-    ensures faults { CountsJournalFault result (D.medium.faults (disk_of store.old)) (D.medium.faults (disk_of store.new)) }
-    ensures arms { D.medium.arms (disk_of store.new) ≡ D.medium.arms (disk_of store.old) }
+    ensures leaves { Leaves D.medium (λ (asked : Asked). asked ≡ Asks commit.label commit.access commit.lines) result store.old store.new }
 {
     if !store.fit_in_turn(alloc, &commit.access.updates)? {
         return Ok(misfit(alloc, &commit.access)?);
@@ -275,16 +239,10 @@ fn add<D: Disk>(
     requires new { number_in (state_of store.old).labels commit.label.client commit.label.tid ≡ None }
     requires holds { ReadsHold (state_of store.old).tree commit.access.reads }
     requires fit { FitInTurn (state_of store.old).tree commit.access.updates }
-    ensures answered { IfOk result (λ bytes. IsAnswered (state_of store.old) (encoded_on D.medium store.old)
-        (Asks commit.label commit.access commit.lines) bytes.items (state_of store.new) (encoded_on D.medium store.new)) }
+    ensures answered { IfOk result (λ bytes. AreAnswered D.medium (Asks commit.label commit.access commit.lines) bytes.items
+        store.old store.new) }
     ensures synced { OnOk result (IsSynced D.medium store.new) }
-    ensures stopped { IsErrOf result JournalFault.Stopped
-        → CutsOff (λ (asked : Asked). asked ≡ Asks commit.label commit.access commit.lines)
-        (state_of store.old) (count_of store.old) (encoded_on D.medium store.old) (D.medium.may_leave (disk_of store.new)) }
-    ensures no_memory { IsErrOf result JournalFault.NoMemory → EachStays (D.medium.may_leave (disk_of store.new))
-        (count_of store.old) (encoded_on D.medium store.old) (state_of store.old) }
-    ensures faults { CountsJournalFault result (D.medium.faults (disk_of store.old)) (D.medium.faults (disk_of store.new)) }
-    ensures arms { D.medium.arms (disk_of store.new) ≡ D.medium.arms (disk_of store.old) }
+    ensures leaves { Leaves D.medium (λ (asked : Asked). asked ≡ Asks commit.label commit.access commit.lines) result store.old store.new }
 {
     let bytes = committed(alloc, store.number())?;
     store.commit_recorded(alloc, commit, body)?;

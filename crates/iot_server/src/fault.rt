@@ -16,7 +16,7 @@ pub enum ServerFault {
     /// The bytes are no request. `at` is the offset of the first fault from the left.
     #[error("no request, from offset {at} on")]
     Malformed { at: u64 },
-    /// The disk failed in this call, which was to append a commit.
+    /// A disk failed in this call, which was to append a commit.
     #[error("the disk failed")]
     Stopped,
 }

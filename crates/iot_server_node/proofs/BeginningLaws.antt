@@ -1,8 +1,10 @@
--- From which states each image of the server's disk goes on.
-use Rattle.iot_server_node.proofs.Common.{◌≡◌, ℕ, List, [], ◌∷◌, ◌++◌, Option, Some, None, inl, inr, refl, sym, ap, subst, ◌∙◌}
+-- From which states each image of the server's disks goes on.
+use Rattle.iot_server_node.proofs.Common.{◌≡◌, ◌⊎◌, ℕ, List, [], ◌∷◌, ◌++◌, Option, Some, None, option_map, inl, inr, refl, sym, ap, subst}
+use Rattle.iot_server_node.proofs.Common.{◌∙◌}
 use Rattle.iot_server_node.proofs.Common.{lists, Handles, Refuses, IsImage, state_of, disk_of, ServerStands}
 use Rattle.iot_slots.specs.declared.version.Version.TheVariants.{Two}
 use Rattle.iot_server_node.specs.Prelude.{Medium, JournalFault, Commit, Node, Lasts, Post, Server, IsRecord, Leads, StandFor, State, rules}
+use Rattle.iot_server_node.specs.Prelude.{Disks, EachStays, If, Storing, disk_on, images_of, state_on}
 use Rattle.iot_server_node.specs.Prelude.{CanFollow, after_commit, next, Reply, Request, ServerKeeper, ServerNode, Label, IsAnswered}
 use Rattle.iot_server_node.specs.Prelude.{Submits, IsMessage, IsRequest, request_spelling}
 use Rattle.iot_certify.specs.declared.verdict.Verdict.TheVariants.{Holds, Differs}
@@ -14,10 +16,17 @@ use Rattle.iot_server.specs.Servers as servers
 use Rattle.iot_tree.specs.Profiles.{Profile}
 use Rattle.iot_store.specs.Numbers.{number_in}
 use Rattle.iot_store.proofs.NumbersLaws.{is_new_from}
-use Rattle.iot_store.proofs.StandingLaws.{store_alone, store_stays}
+use Rattle.iot_store.proofs.PartsLaws.{changes_if}
+use Rattle.iot_store.proofs.StandingLaws.{second_stays, store_alone, store_stays}
+use Rattle.iot_store.specs.Standing.{EachStandsEither}
+use Rattle.iot_backup.proofs.PairsLaws.{if_so}
+use Rattle.iot_server.specs.Faults.{CutsOff, Stays}
+use Rattle.iot_slots.specs.declared.slots.Slots.{Slots}
 use Rattle.iot_tree.specs.declared.access.Access.{Access}
 use Rattle.iot_wire.specs.declared.requests.Request.TheVariants as requests
-use Rattle.iot_server_node.specs.Records.{GoesOnFrom, EachGoesOn, DiskGoesOn, KeepsRecords}
+use Rattle.iot_server_node.specs.Disks.{Image, MayLeaveOf, on_both, reads_may_leave}
+use Rattle.iot_server_node.specs.Keepers.{RefusesFor, disks_in}
+use Rattle.iot_server_node.specs.Records.{AreImages, AreTurning, GoOnFrom, GoesOnFrom, EachGoesOn, DiskGoesOn, KeepsRecords, LacksCommit}
 use Rattle.iot_server_node.specs.Servers.{IsOneMore, IsOneMoreIfAny, NodeIsKnown, ServerIsSound, KeepsCommits, Lives, Handled, Refused}
 use Rattle.iot_server_node.proofs.ServersLaws.{lasts}
 
@@ -33,62 +42,105 @@ pub image_goes_on : (bytes : List ℕ) (n : ℕ) (commits longer : List Commit) 
 image_goes_on bytes n commits longer more image =
     record { state = state_of longer; stands = image.stands; records = more.body ∷ []; leads = more.leads }
 
-module _ {D : Type 0} (medium : Medium D) where
+-- ---- an image of both disks
+
+both_go_on : (image : Image) (n : ℕ) (commits : List Commit) → AreImages image n commits → GoOnFrom (state_of commits) image
+both_go_on image n commits is = record { disk = own_goes_on image.disk n commits is.disk; backup = by image.backup is.backup }
+  where
+    by : (backup : Option (List ℕ)) → If (λ bytes. IsImage bytes n commits) backup → If (GoesOnFrom (state_of commits)) backup
+    by (Some bytes) is = own_goes_on bytes n commits is
+    by None is = tt
+
+turning_goes_on : (image : Image) (n : ℕ) (commits longer : List Commit) → IsOneMore commits longer → AreTurning image n commits longer
+    → GoOnFrom (state_of commits) image
+turning_goes_on image n commits longer more is =
+    record { disk = image_goes_on image.disk (next n) commits longer more is.disk; backup = by image.backup is.backup }
+  where
+    by : (backup : Option (List ℕ)) → If (λ bytes. LacksCommit image.disk bytes n commits longer ⊎ IsImage bytes (next n) longer) backup
+        → If (GoesOnFrom (state_of commits)) backup
+    by (Some bytes) is = elim is [
+      | inl lacks ↦ own_goes_on bytes n commits lacks.image
+      | inr has ↦ image_goes_on bytes (next n) commits longer more has
+    ]
+    by None is = tt
+
+module _ {P : Type 0} (medium : Storing P Image) where
   -- ---- what it keeps
 
-  pub records_same : (old new : Option D) → new ≡ old → KeepsRecords medium old new
-  records_same old new same = record { keeps = λ from had. subst (λ (o : Option D). DiskGoesOn medium from o) (sym same) had }
+  pub records_same : (old new : Option P) → new ≡ old → KeepsRecords medium old new
+  records_same old new same = record { keeps = λ from had. subst (λ (o : Option P). DiskGoesOn medium from o) (sym same) had }
 
-  pub records_then : (old mid new : Option D) → KeepsRecords medium old mid → KeepsRecords medium mid new → KeepsRecords medium old new
+  pub records_then : (old mid new : Option P) → KeepsRecords medium old mid → KeepsRecords medium mid new → KeepsRecords medium old new
   records_then old mid new one other = record { keeps = λ from had. other.keeps from (one.keeps from had) }
 
-  -- what its disk holds goes on from what is durable
-  lasts_go_on : (names : List (List ℕ)) (post : Post (ServerKeeper D) D) (node : Node (List Commit)) → NodeIsKnown names node
-      → Lasts (lists medium) medium post node
-      → DiskGoesOn medium (state_of node.durable) (posts.disk_of (lists medium).disk post)
+module _ {D : Type 0} (medium : Medium D) where
+  -- what its disks hold goes on from what is durable
+  pub lasts_go_on : (names : List (List ℕ)) (post : Post (ServerKeeper D) (Disks D)) (node : Node (List Commit)) → NodeIsKnown names node
+      → Lasts (lists medium) (on_both medium) post node
+      → DiskGoesOn (on_both medium) (state_of node.durable) (posts.disk_of (lists medium).disk post)
   lasts_go_on names post node known it =
       rw it.has
       (record {
         each = λ image there. elim (it.each.each image there) [
-          | inl is ↦ own_goes_on image it.count node.durable is
-          | inr more ↦ image_goes_on image (next it.count) node.durable more.0
+          | inl is ↦ both_go_on image it.count node.durable is
+          | inr more ↦ turning_goes_on image it.count node.durable more.0
               (subst (IsOneMoreIfAny node.durable) more.1 known.longer) more.2
         ];
       })
 
-  -- the disk of a server goes on from the state of its list
+  -- the disks of a server go on from the state of its list
   pub stands_go_on : (names : List (List ℕ)) (server : ServerNode D) (node : Node (List Commit)) (n : ℕ)
-      → ServerStands medium names server node n → DiskGoesOn medium (state_of node.durable) (disk_of server)
+      → ServerStands medium names server node n → DiskGoesOn (on_both medium) (state_of node.durable) (disk_of server)
   stands_go_on names server node n here =
       lasts_go_on names server.post node here.known (lasts medium names server node n here)
 
   -- and still does
   module _ (old new : ServerNode D) where
     pub commits_last : ((names : List (List ℕ)) (node : Node (List Commit)) (n : ℕ) → ServerStands medium names old node n
-        → Lasts (lists medium) medium new.post node) → KeepsCommits medium old new
+        → Lasts (lists medium) (on_both medium) new.post node) → KeepsCommits medium old new
     commits_last still =
         record { keeps = λ names node n here. lasts_go_on names new.post node here.known (still names node n here) }
 
-    pub commits_kept : KeepsRecords medium (disk_of old) (disk_of new) → KeepsCommits medium old new
+    pub commits_kept : KeepsRecords (on_both medium) (disk_of old) (disk_of new) → KeepsCommits medium old new
     commits_kept it =
         record { keeps = λ names node n here. it.keeps (state_of node.durable) (stands_go_on names old node n here) }
 
     pub commits_same : disk_of new ≡ disk_of old → KeepsCommits medium old new
-    commits_same same = commits_kept (records_same (disk_of old) (disk_of new) same)
+    commits_same same = commits_kept (records_same (on_both medium) (disk_of old) (disk_of new) same)
 
 -- ---- a request
 
 module _ {D : Type 0} (medium : Medium D) (is_image : (disk : D) → medium.may_leave disk (medium.reads disk)) where
-  -- a server on whose disk nothing is under way
-  module _ (was now : Server D) (synced : servers.IsSynced medium was) (from : State)
-      (had : EachGoesOn medium from (servers.disk_of was)) where
+  -- each image of a disk and of a backup, if each of them goes on from there
+  each_goes_on : (from : State) (disk : D) (second : Option (Slots D)) (given_up : Option D)
+      → ((i : List ℕ) → medium.may_leave disk i → GoesOnFrom from i)
+      → If (λ s. (j : List ℕ) → images_of medium s j → GoesOnFrom from j) second
+      → EachGoesOn (on_both medium) from (record { disk = disk; backup = option_map disk_on second; given_up = given_up })
+  each_goes_on from disk second given_up first also = record {
+    each = λ image left. record { disk = first image.disk left.disk; backup = by second image.backup also left.backup };
+  }
+    where
+      by : (second : Option (Slots D)) (backup : Option (List ℕ))
+          → If (λ s. (j : List ℕ) → images_of medium s j → GoesOnFrom from j) second
+          → MayLeaveOf medium (option_map disk_on second) backup → If (GoesOnFrom from) backup
+      by (Some s) (Some j) also left = also j left
+      by (Some s) None also left = tt
+      by None (Some j) also left = absurd left
+      by None None also left = tt
+
+  -- a server on whose disks nothing is under way
+  module _ (was now : Server D) (given_up : Option D) (synced : servers.IsSynced medium was) (from : State)
+      (had : EachGoesOn (on_both medium) from (disks_in (record { server = was; given_up = given_up }))) where
     abbrev before : State
     before = servers.state_of was
+
+    abbrev GoesOn : Type 0
+    GoesOn = EachGoesOn (on_both medium) from (disks_in (record { server = now; given_up = given_up }))
 
     -- records lead from there to its state, for which alone its disk stands
     leads_here : (records : List (List ℕ)) × Leads (rules Two) records from before
     leads_here =
-        let first = had.each (medium.reads (servers.disk_of was)) (is_image (servers.disk_of was)) in
+        let first = (had.each _ (reads_may_leave medium is_image (disks_in (record { server = was; given_up = given_up })))).disk in
         let same : first.state ≡ before = store_alone medium (servers.store_of was) synced first.state first.stands in
         (first.records, subst (λ (s : State). Leads (rules Two) first.records from s) same first.leads)
 
@@ -138,44 +190,64 @@ module _ {D : Type 0} (medium : Medium D) (is_image : (disk : D) → medium.may_
     answered_on (requests.Commit label access lines) is answered stands =
         submits_on answered.reply is (number_in before.labels label.client label.tid) refl answered.answers stands
 
-    handled_on : {asked reply : List ℕ} → Handles medium asked reply was now → EachGoesOn medium from (servers.disk_of now)
-    handled_on it = record {
-      each = λ image there.
-          answered_on it.handled.request it.handled.is it.handled.answered
-          ((store_stays medium (servers.store_of now) it.synced).stands.each image there).stands;
-    }
+    handled_on : {asked reply : List ℕ} → Handles medium asked reply was now → GoesOn
+    handled_on it =
+        each_goes_on from (servers.disk_of now) (servers.second_of now) given_up (λ i there.
+        answered_on it.handled.request it.handled.is it.handled.answered
+        ((store_stays medium (servers.store_of now) it.synced).stands.each i there).stands)
+        (if_so (λ s. EachStays (images_of medium s) (servers.count_of now) (state_on medium s) (servers.state_of now))
+        (λ s. (j : List ℕ) → images_of medium s j → GoesOnFrom from j)
+        (λ s stays j there. answered_on it.handled.request it.handled.is it.handled.answered (stays.stands.each j there).stands)
+        (servers.second_of now) (second_stays medium (servers.store_of now) it.synced))
 
-    refused_on : (asked : List ℕ) (fault : JournalFault) → Refuses medium asked fault was now
-        → EachGoesOn medium from (servers.disk_of now)
-    refused_on asked append.NoMemory kept = record { each = λ image there. same_on (kept.stands.each image there).stands }
-    refused_on asked append.Stopped stops = record {
-      each = λ image there. elim (stops.0.either.each image there) [
-        | inl same ↦ same_on same.stands
-        | inr more ↦ more_on stops.0.asked stops.0.follows more.stands
-      ];
-    }
+    -- all stays
+    stays_on : Stays medium (servers.store_of was) (servers.store_of now) → GoesOn
+    stays_on it =
+        each_goes_on from (servers.disk_of now) (servers.second_of now) given_up
+        (λ i there. same_on (it.first.stands.each i there).stands)
+        (changes_if (λ old new. EachStays (images_of medium new) (servers.count_of was) (state_on medium old) (servers.state_of was))
+        (λ s. (j : List ℕ) → images_of medium s j → GoesOnFrom from j) (λ old new stays j there. same_on (stays.stands.each j there).stands)
+        (servers.second_of was) (servers.second_of now) it.second)
+
+    -- a commit was cut off
+    cut_on : {asked : List ℕ}
+        → CutsOff medium (IsMessage IsRequest request_spelling asked) (servers.store_of was) (servers.store_of now) → GoesOn
+    cut_on it =
+        each_goes_on from (servers.disk_of now) (servers.second_of now) given_up (λ i there.
+        elim (it.either.each i there) [ inl same ↦ same_on same.stands | inr more ↦ more_on it.asked it.follows more.stands ])
+        (changes_if (λ old new. EachStandsEither (images_of medium new) (servers.count_of was) (servers.state_of was)
+        (after_commit (servers.state_of was) it.label it.access))
+        (λ s. (j : List ℕ) → images_of medium s j → GoesOnFrom from j) (λ old new either j there.
+        elim (either.each j there) [ inl same ↦ same_on same.stands | inr more ↦ more_on it.asked it.follows more.stands ])
+        (servers.second_of was) (servers.second_of now) it.second_either)
+
+    refused_by : (asked : List ℕ) (fault : JournalFault) → RefusesFor medium asked fault was now → GoesOn
+    refused_by asked append.NoMemory lacks = elim lacks.either [ inl kept ↦ stays_on kept | inr cut ↦ cut_on cut ]
+    refused_by asked append.Stopped stops = cut_on stops.0
 
   -- what a live server did keeps them, if this does
   lives_on : {By : Server D → Server D → Type 0} {old mid : ServerNode D} (new : ServerNode D) → ServerIsSound medium old → Lives By old mid
       → disk_of new ≡ disk_of mid
-      → ((was now : Server D) → servers.IsSynced medium was → (from : State) → EachGoesOn medium from (servers.disk_of was)
-      → By was now → EachGoesOn medium from (servers.disk_of now))
-      → KeepsRecords medium (disk_of old) (disk_of new)
+      → ((was now : Server D) (given_up : Option D) → servers.IsSynced medium was → (from : State)
+      → EachGoesOn (on_both medium) from (disks_in (record { server = was; given_up = given_up })) → By was now
+      → EachGoesOn (on_both medium) from (disks_in (record { server = now; given_up = given_up })))
+      → KeepsRecords (on_both medium) (disk_of old) (disk_of new)
   lives_on {old = old} new sound it same goes_on =
-      subst (λ (disk : Option D). KeepsRecords medium (disk_of old) disk) (sym (same ∙ ap disk_of it.new_is))
+      subst (λ (disk : Option (Disks D)). KeepsRecords (on_both medium) (disk_of old) disk) (sym (same ∙ ap disk_of it.new_is))
       (rw it.old_is
       (record {
         keeps = λ from had.
-            goes_on it.was it.now (subst (ServerIsSound medium) it.old_is sound).stands.post.stands.synced from had it.by;
+            goes_on it.was it.now it.given_up (subst (ServerIsSound medium) it.old_is sound).stands.post.stands.synced from had it.by;
       }))
 
   pub handled_records : {asked reply : List ℕ} {old new : ServerNode D} → ServerIsSound medium old → Handled medium asked reply old new
-      → KeepsRecords medium (disk_of old) (disk_of new)
+      → KeepsRecords (on_both medium) (disk_of old) (disk_of new)
   handled_records sound handled =
-      lives_on _ sound handled refl (λ was now synced from had. handled_on was now synced from had)
+      lives_on _ sound handled refl (λ was now given_up synced from had. handled_on was now given_up synced from had)
 
   pub refused_records : (asked : List ℕ) (fault : JournalFault) {old mid : ServerNode D} (new : ServerNode D)
       → ServerIsSound medium old → Refused medium asked fault old mid → disk_of new ≡ disk_of mid
-      → KeepsRecords medium (disk_of old) (disk_of new)
+      → KeepsRecords (on_both medium) (disk_of old) (disk_of new)
   refused_records asked fault new sound refused same =
-      lives_on new sound refused same (λ was now synced from had. refused_on was now synced from had asked fault)
+      lives_on new sound refused same (λ was now given_up synced from had by.
+      refused_by was now given_up synced from had asked fault by.why)

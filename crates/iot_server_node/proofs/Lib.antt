@@ -1,6 +1,12 @@
 mod Common
+mod RecordsLaws
+mod PairsLaws
+mod CountsLaws
+mod DisksLaws
 pub mod KeepersLaws
+mod StartingLaws
 pub mod ServersLaws
 mod ServingLaws
 pub mod DecidingLaws
 pub mod BeginningLaws
+pub mod BackupLaws

@@ -3,12 +3,14 @@ use Rattle.std.proofs.Math.Nat.{mod-add-mod}
 use Rattle.iot_server_node.proofs.Common.{◌≡◌, ℕ, suc, zero, ◌+◌, ◌%◌, ◌^◌, Bool, true, false, if◌then◌else◌, List, [], ◌∷◌, ◌++◌, length}
 use Rattle.iot_server_node.proofs.Common.{drop, Option, Some, None, IsSome, codes, refl, sym, ap, subst, ◌∙◌, arith, inl, inr}
 use Rattle.iot_server_node.proofs.Common.{slice_index_or, length-append, lists, Handles, KeepsList, ServerStands, AreOf, EncodesList}
+use Rattle.iot_server_node.proofs.Common.{IsImage}
 use Rattle.iot_server_node.proofs.Common.{state_of, bind, asks}
 use Rattle.iot_slots.specs.declared.version.Version.TheVariants.{Two}
-use Rattle.iot_server_node.specs.Prelude.{Medium, Encoded, NotStarted, header, next, IsGrown, IsRenewed, Leads, rules, State}
-use Rattle.iot_server_node.specs.Prelude.{after_commit, Server, Label, Call, Says, Nothing, Then}
+use Rattle.iot_server_node.specs.Prelude.{Medium, Storing, Encoded, NotStarted, header, next, IsGrown, IsRenewed, Leads, rules, State}
+use Rattle.iot_server_node.specs.Prelude.{Changes, Disks}
+use Rattle.iot_server_node.specs.Prelude.{after_commit, Server, Label, Call, Says, Nothing, Then, EachIs, paired, restart_words, state_on}
 use Rattle.iot_server_node.specs.Prelude.{either, Commit, add_commit, tree_after, Node, fallen, changed, back, unopened, Refines}
-use Rattle.iot_server_node.specs.Prelude.{server_name, kept_text, OpensNode, Appends, ComesBack, ComesBackWith, Crashes, Restarts, ArmsDisk}
+use Rattle.iot_server_node.specs.Prelude.{server_name, kept_text, OpensNode, Appends, ComesBackAs, SettlesAs, Crashes, Restarts, ArmsDisk}
 use Rattle.iot_server_node.specs.Prelude.{line, transaction_name, IsEmpty, KeepsDisk, counts_on, is_on, live_of, PostStands, HoldsBy}
 use Rattle.iot_server_node.specs.Prelude.{IsStanding, Lasts, StepsTo, Doubt, Post, Up, Down, Between, ServerKeeper, ServerNode}
 use Rattle.iot_disk.specs.declared.disk.Pick.{Pick}
@@ -18,14 +20,17 @@ use Rattle.iot_slots.specs.Decoding.{decoded}
 use Rattle.iot_server.specs.Traffic.{no_traffic}
 use Rattle.iot_machine.specs.Serving.{added_text, commit_text}
 use Rattle.iot_node.specs.Posts as posts
+use Rattle.iot_server_node.specs.Disks.{Image, MayLeave, MayLeaveOf, on_both, placed}
 use Rattle.iot_server_node.specs.Keepers.{traffic_in}
 use Rattle.iot_server_node.specs.Servers.{is_up, IsKnown, AreKnown, AreKnownIfAny, IsOneMoreIfAny, NodeIsKnown, HasAnsweredIn}
 use Rattle.iot_server_node.specs.Servers.{HavingAnswered, IsUnopened, answered_since, live, IsLive, Lives}
-use Rattle.iot_server_node.proofs.KeepersLaws.{empty_image, keeps_images, one_counted, record_is, renewed_list, state_is}
+use Rattle.iot_server_node.proofs.CountsLaws.{kept_counts}
+use Rattle.iot_server_node.proofs.KeepersLaws.{empty_image, from_backup, keeps_images, one_counted, record_is, renewed_list, state_is}
+use Rattle.iot_server_node.proofs.PairsLaws.{both_stand}
 use Rattle.iot_machine.proofs.FollowsLaws.{all_as, all_push, at_push}
 use Rattle.iot_machine.proofs.KeepsLaws.{asks_then, keeps_either, keeps_does, stays_says}
 use Rattle.iot_node.proofs.PostsLaws.{lasts_in as posts_lasts_in, on_is}
-use Rattle.iot_store.proofs.StandingLaws.{grown_count}
+use Rattle.iot_store.proofs.StandingLaws.{grown_count, store_counted}
 
 -- nothing was started on an empty disk
 nothing_started : decoded header [] ≡ NotStarted
@@ -53,16 +58,17 @@ module _ (names : List (List ℕ)) where
   known_back : (s : List Commit) (node after : Node (List Commit)) → after ≡ back s node → AreKnown names s → NodeIsKnown names after
   known_back s node after is known = subst (NodeIsKnown names) (sym is) (record { durable = known; doubt = tt; longer = tt })
 
-  known_settled : (doubt : Option (List Commit)) (node after : Node (List Commit)) (text : List ℕ)
-      → ComesBackWith server_name (kept_text names) doubt node text after → AreKnown names node.durable → AreKnownIfAny names doubt
+  known_settled : (words : List ℕ) (doubt : Option (List Commit)) (node after : Node (List Commit)) (text : List ℕ)
+      → SettlesAs words (kept_text names) doubt node text after → AreKnown names node.durable → AreKnownIfAny names doubt
       → NodeIsKnown names after
-  known_settled None node after text is durable doubt = known_back node.durable node after is.1 durable
-  known_settled (Some s) node after text (inl is) durable doubt = known_back s node after is.1 doubt
-  known_settled (Some s) node after text (inr is) durable doubt = known_back node.durable node after is.1 durable
+  known_settled words None node after text is durable doubt = known_back node.durable node after is.1 durable
+  known_settled words (Some s) node after text (inl is) durable doubt = known_back s node after is.1 doubt
+  known_settled words (Some s) node after text (inr is) durable doubt = known_back node.durable node after is.1 durable
 
-  pub known_comes_back : (on : Bool) → Keeps (ComesBack server_name (kept_text names)) on
-  known_comes_back on node after text (inl is) known = known_settled node.doubt node after text is.1 known.durable known.doubt
-  known_comes_back on node after text (inr is) known = known_so is.2.is known refl refl
+  pub known_comes_back : (words : List ℕ) (on : Bool) → Keeps (ComesBackAs words server_name (kept_text names)) on
+  known_comes_back words on node after text (inl is) known =
+      known_settled words node.doubt node after text is.1 known.durable known.doubt
+  known_comes_back words on node after text (inr is) known = known_so is.2.is known refl refl
 
   pub known_armed : (calls : ℕ) (pick : Pick) → Keeps (ArmsDisk server_name calls pick) tt
   known_armed calls pick node after text is known = known_so is.1 known refl refl
@@ -117,25 +123,26 @@ module _ (names : List (List ℕ)) (name : List ℕ) where
 -- ---- its post
 
 module _ {D : Type 0} where
-  pub answered_off : (post : Post (ServerKeeper D) D) (n : ℕ) → is_on post ≡ false → HasAnsweredIn n post
+  pub answered_off : (post : Post (ServerKeeper D) (Disks D)) (n : ℕ) → is_on post ≡ false → HasAnsweredIn n post
   answered_off (Up keeper) n off = absurd cc
   answered_off post n off = tt
 
   -- one that was just started has answered none
-  pub answered_fresh : (post : Post (ServerKeeper D) D) (on : Bool) → live_of traffic_in post ≡ if on then Some no_traffic else None
+  pub answered_fresh : (post : Post (ServerKeeper D) (Disks D)) (on : Bool) → live_of traffic_in post ≡ if on then Some no_traffic else None
       → HasAnsweredIn 0 post
   answered_fresh (Up keeper) true is = cc
   answered_fresh (Up keeper) false is = absurd cc
   answered_fresh post on is = tt
 
-  pub answered_same : (old new : Post (ServerKeeper D) D) (n : ℕ) → live_of traffic_in new ≡ live_of traffic_in old → HasAnsweredIn n old
+  pub answered_same : (old new : Post (ServerKeeper D) (Disks D)) (n : ℕ) → live_of traffic_in new ≡ live_of traffic_in old
+      → HasAnsweredIn n old
       → HasAnsweredIn n new
   answered_same (Up was) (Up now) n same had = cc
   answered_same old (Up now) n same had = absurd cc
   answered_same old new n same had = tt
 
   -- as it has a disk, it has the same after a call that leaves it
-  pub keeps_same : (medium : Medium D) (old new : Option D) → IsSome old → new ≡ old → KeepsDisk medium old new
+  pub keeps_same : {I : Type 0} (medium : Storing D I) (old new : Option D) → IsSome old → new ≡ old → KeepsDisk medium old new
   keeps_same medium None new some same = absurd cc
   keeps_same medium (Some disk) new some same =
       record { was = disk; now = disk; old_has = refl; new_has = same; arms = refl; faults = inl refl }
@@ -144,8 +151,8 @@ module _ {D : Type 0} (medium : Medium D) (names : List (List ℕ)) where
   abbrev Stands : ℕ → ServerNode D → Node (List Commit) → Type 0
   Stands n = HavingAnswered medium names n
 
-  abbrev Posted : Post (ServerKeeper D) D → Node (List Commit) → Type 0
-  Posted = PostStands (lists medium) medium (kept_text names)
+  abbrev Posted : Post (ServerKeeper D) (Disks D) → Node (List Commit) → Type 0
+  Posted = PostStands (lists medium) (on_both medium) (kept_text names)
 
   -- what its post does, it does, if what is known of its node stays so
   pub with_known_there : {A : Type 0} {call : Call (Node (List Commit)) A} {old new : ServerNode D} {n k : ℕ} {x y : List ℕ} {a : A}
@@ -167,19 +174,23 @@ module _ {D : Type 0} (medium : Medium D) (names : List (List ℕ)) where
 
   -- ---- never started
 
-  pub unopened_stands : (disk : D) (n : ℕ) → IsEmpty medium disk
-      → ServerStands medium names (record { post = Down (record { disk = disk; doubt = None }) }) (unopened [] (counts_on medium disk)) n
-  unopened_stands disk n empty = record {
+  each_empty : (disk : D) → IsEmpty medium disk → EachIs (medium.may_leave disk) (λ bytes. IsImage bytes 0 [])
+  each_empty disk empty = record {
+    each = λ bytes there.
+        empty_image bytes (ap (decoded header) (empty.synced.is bytes there ∙ empty.empty) ∙ nothing_started);
+  }
+
+  pub unopened_stands : (first backup : D) (n : ℕ) → IsEmpty medium first → IsEmpty medium backup
+      → ServerStands medium names (record { post = Down (record { disk = placed false first backup; doubt = None }) })
+      (unopened [] (paired (counts_on medium first) (counts_on medium backup))) n
+  unopened_stands first backup n empty also = record {
     post = record {
       alive = refl;
       counts = refl;
       count = 0;
       holds = record {
         sure = refl;
-        each = record {
-          each = λ bytes there.
-              empty_image bytes (ap (decoded header) (empty.synced.is bytes there ∙ empty.empty) ∙ nothing_started);
-        };
+        each = both_stand medium first None (Some backup) 0 [] (each_empty first empty) (each_empty backup also);
       };
     };
     known = record { durable = tt; doubt = tt; longer = tt };
@@ -189,49 +200,54 @@ module _ {D : Type 0} (medium : Medium D) (names : List (List ℕ)) where
   -- it is alive if the node is
   pub up_is : (server : ServerNode D) (node : Node (List Commit)) (n : ℕ) → ServerStands medium names server node n
       → node.alive ≡ is_up server
-  up_is server node n here = on_is (lists medium) medium (kept_text names) server.post node here.post
+  up_is server node n here = on_is (lists medium) (on_both medium) (kept_text names) server.post node here.post
 
   -- ---- a restart
 
   -- by whether it is alive
   pub restarts : (old new : ServerNode D) (n : ℕ) (x y : List ℕ) (on : Bool) → is_up old ≡ on
       → StepsTo (Stands n) (Stands (answered_since on n))
-      (either (Says (λ _. line (codes "up"))) (Then (ComesBack server_name (kept_text names)) (λ _. Nothing)) on) old new x y tt
+      (either (Says (λ _. line (codes "up"))) (Then (ComesBackAs (restart_words server_name) server_name (kept_text names))
+      (λ _. Nothing)) on)
+      old new x y tt
       → StepsTo (Stands n) (Stands (answered_since (is_up old) n)) (Restarts server_name (kept_text names)) old new x y tt
   restarts old new n x y on is step =
       rw is
       (bind old old new x x y on tt (asks old x on (λ node here. sym (up_is old node n here ∙ is))) step)
 
-  lasts_in : (post : Post (ServerKeeper D) D) (node : Node (List Commit)) → Posted post node → Lasts (lists medium) medium post node
-  lasts_in = posts_lasts_in (lists medium) medium (kept_text names) (λ keeper n commits here. keeps_images here)
+  lasts_in : (post : Post (ServerKeeper D) (Disks D)) (node : Node (List Commit)) → Posted post node
+      → Lasts (lists medium) (on_both medium) post node
+  lasts_in = posts_lasts_in (lists medium) (on_both medium) (kept_text names) (λ keeper n commits here. keeps_images here)
 
-  pub has_disk : (post : Post (ServerKeeper D) D) (node : Node (List Commit)) → Posted post node
+  pub has_disk : (post : Post (ServerKeeper D) (Disks D)) (node : Node (List Commit)) → Posted post node
       → IsSome (posts.disk_of (lists medium).disk post)
   has_disk post node here = rw (lasts_in post node here).has refl
 
   -- what its disk holds
   pub lasts : (server : ServerNode D) (node : Node (List Commit)) (n : ℕ) → ServerStands medium names server node n
-      → Lasts (lists medium) medium server.post node
+      → Lasts (lists medium) (on_both medium) server.post node
   lasts server node n here = lasts_in server.post node here.post
 
   -- ---- a request
 
   -- a server that is alive takes requests
-  pub is_live : (post : Post (ServerKeeper D) D) (node : Node (List Commit)) → Posted post node → is_on post ≡ true
+  pub is_live : (post : Post (ServerKeeper D) (Disks D)) (node : Node (List Commit)) → Posted post node → is_on post ≡ true
       → IsLive medium (record { post = post })
-  is_live (Up keeper) node here up = record { it = keeper.server; up = refl; synced = here.stands.synced }
+  is_live (Up keeper) node here up =
+      record { given_up = keeper.given_up; it = keeper.server; up = refl; synced = here.stands.synced }
   is_live post node here up = absurd cc
 
-  module _ {was now : Server D} {asked reply : List ℕ} {node : Node (List Commit)} {n : ℕ} (it : Handles medium asked reply was now)
-      (here : ServerStands medium names (live was) node n) where
+  module _ {was now : Server D} {given_up : Option D} {asked reply : List ℕ} {node : Node (List Commit)} {n : ℕ}
+      (it : Handles medium asked reply was now) (here : ServerStands medium names (live given_up was) node n) where
     -- once more, with what it has now
-    stands_on : (change : List Commit → List Commit) (count : ℕ) → KeepsList medium (record { server = now }) count (change node.durable)
-        → NodeIsKnown names (changed change node) → ServerStands medium names (live now) (changed change node) (n + 1)
+    stands_on : (change : List Commit → List Commit) (count : ℕ)
+        → KeepsList medium (record { server = now; given_up = given_up }) count (change node.durable)
+        → NodeIsKnown names (changed change node) → ServerStands medium names (live given_up now) (changed change node) (n + 1)
     stands_on change count keeps known = record {
       post = record {
         alive = here.post.alive;
         sure = here.post.sure;
-        counts = it.counts ∙ here.post.counts;
+        counts = kept_counts medium was now given_up it.arms it.faults ∙ here.post.counts;
         count = count;
         stands = keeps;
       };
@@ -242,41 +258,62 @@ module _ {D : Type 0} (medium : Medium D) (names : List (List ℕ)) where
 
     -- as many records as before it
     counted_before : (servers.encoded_on medium was).count ≡ here.post.count
-    counted_before = sym here.post.stands.synced.slots.layout.count ∙ here.post.stands.many
+    counted_before = store_counted medium (servers.store_of was) here.post.stands.synced ∙ here.post.stands.many
+
+    -- after it as many as it encodes
+    counted_now : servers.count_of now ≡ (servers.encoded_on medium now).count
+    counted_now = sym (store_counted medium (servers.store_of now) it.synced)
 
     -- one that encodes what it did, and has the state that it had, stands for what it stood for
-    pub stands_still : servers.encoded_on medium now ≡ servers.encoded_on medium was → servers.state_of now ≡ servers.state_of was
-        → ServerStands medium names (live now) node (n + 1)
-    stands_still encoded made =
+    pub stands_still : servers.encoded_on medium now ≡ servers.encoded_on medium was
+        → Changes (λ old new. state_on medium new ≡ state_on medium old) (servers.second_of was) (servers.second_of now)
+        → servers.state_of now ≡ servers.state_of was → ServerStands medium names (live given_up now) node (n + 1)
+    stands_still encoded also made =
         stands_on (λ commits. commits) here.post.count (record {
           synced = it.synced;
           has_list = subst (λ (e : Encoded). EncodesList e node.durable) (sym encoded) here.post.stands.has_list;
-          many =
-              it.synced.slots.layout.count ∙ ap (λ (e : Encoded). e.count) encoded ∙ counted_before;
+          second = from_backup (λ s. EncodesList (state_on medium s) node.durable) (λ s. EncodesList (state_on medium s) node.durable)
+              (λ old new. state_on medium new ≡ state_on medium old)
+              (λ old new list same. subst (λ (e : Encoded). EncodesList e node.durable) (sym same) list)
+              (servers.second_of was) (servers.second_of now) here.post.stands.second also;
+          many = counted_now ∙ ap (λ (e : Encoded). e.count) encoded ∙ counted_before;
           has_state = made ∙ here.post.stands.has_state;
           counted = here.post.stands.counted;
         })
         here.known
 
-    -- one that has one record more, of this commit, and the state after it, stands for a list with this commit
+    -- what has one record more, of this commit
+    longer_list : {commit : Commit} {label : Label} {access : Access} {lines : List (List ℕ)} (encoded after : Encoded)
+        → AreOf commit (tree_after node.durable) label access lines → EncodesList encoded node.durable
+        → IsGrown encoded (servers.state_of was) (record { label = label; access = access; lines = lines }) after
+        → EncodesList after (add_commit commit node.durable)
+    longer_list {commit} {label} {access} {lines} encoded after are has grown =
+        let renews : IsRenewed rules encoded (state_of node.durable) grown.mid =
+        subst (λ (s : State). IsRenewed rules encoded s grown.mid) here.post.stands.has_state grown.renews in
+        subst (λ (e : Encoded). EncodesList e (add_commit commit node.durable)) (sym grown.is)
+        (record_is node.durable are grown.mid grown.body grown.next.spells
+        (renewed_list encoded grown.mid node.durable renews has))
+
+    -- one that has it, and the state after it, stands for a list with this commit
     pub stands_longer : {commit : Commit} {label : Label} {access : Access} {lines : List (List ℕ)}
         → AreOf commit (tree_after node.durable) label access lines
         → IsGrown (servers.encoded_on medium was) (servers.state_of was) (record { label = label; access = access; lines = lines })
         (servers.encoded_on medium now)
+        → Changes (λ old new. IsGrown (state_on medium old) (servers.state_of was)
+        (record { label = label; access = access; lines = lines }) (state_on medium new)) (servers.second_of was) (servers.second_of now)
         → servers.state_of now ≡ after_commit (servers.state_of was) label access → IsKnown names commit
-        → ServerStands medium names (live now) (changed (add_commit commit) node) (n + 1)
-    stands_longer {commit} {label} {access} {lines} are grown made known =
-        let was_encoded : Encoded = servers.encoded_on medium was in
-        let renews : IsRenewed rules was_encoded (state_of node.durable) grown.mid =
-        subst (λ (s : State). IsRenewed rules was_encoded s grown.mid) here.post.stands.has_state grown.renews in
-        let list : EncodesList grown.mid node.durable = renewed_list was_encoded grown.mid node.durable renews here.post.stands.has_list in
+        → ServerStands medium names (live given_up now) (changed (add_commit commit) node) (n + 1)
+    stands_longer {commit} {label} {access} {lines} are grown also made known =
         stands_on (add_commit commit) (next here.post.count) (record {
           synced = it.synced;
-          has_list =
-              subst (λ (e : Encoded). EncodesList e (add_commit commit node.durable)) (sym grown.is)
-              (record_is node.durable are grown.mid grown.body grown.next.spells list);
-          many =
-              it.synced.slots.layout.count ∙ grown_count _ _ _ _ grown ∙ ap next counted_before;
+          has_list = longer_list (servers.encoded_on medium was) (servers.encoded_on medium now) are here.post.stands.has_list grown;
+          second = from_backup (λ s. EncodesList (state_on medium s) node.durable)
+              (λ s. EncodesList (state_on medium s) (add_commit commit node.durable))
+              (λ old new. IsGrown (state_on medium old) (servers.state_of was)
+              (record { label = label; access = access; lines = lines }) (state_on medium new))
+              (λ old new list more. longer_list (state_on medium old) (state_on medium new) are list more)
+              (servers.second_of was) (servers.second_of now) here.post.stands.second also;
+          many = counted_now ∙ grown_count _ _ _ _ grown ∙ ap next counted_before;
           has_state =
               made ∙ ap (λ (s : State). after_commit s label access) here.post.stands.has_state ∙ sym (state_is node.durable are);
           counted = one_counted here.post.stands commit;
@@ -290,32 +327,48 @@ module _ {D : Type 0} (medium : Medium D) (names : List (List ℕ)) where
 -- ---- how it handles a request
 
 pub lives : {D : Type 0} (By : List ℕ → Server D → Server D → Type 0) {old : ServerNode D} {was now : ServerKeeper D}
-    {given asked : List ℕ} → old.post ≡ Up was → given ≡ asked → By given was.server now.server
+    {given asked : List ℕ} → old.post ≡ Up was → given ≡ asked → now.given_up ≡ was.given_up → By given was.server now.server
     → Lives (By asked) old (record { post = Up now })
-lives By {was = was} {now = now} is same by = record {
+lives By {was = was} {now = now} is same given_up by = record {
+  given_up = was.given_up;
   was = was.server;
   now = now.server;
   old_is = ap (λ (post : Post _ _). record { post = post }) is;
-  new_is = refl;
+  new_is = λ i. record { post = Up (record { server = now.server; given_up = given_up i }) };
   by = subst (λ (bytes : List ℕ). By bytes was.server now.server) same by;
 }
 
 -- one that was never started stands for some node
 pub is_standing : {D : Type 0} (medium : Medium D) (server : ServerNode D) → IsUnopened medium server
-    → IsStanding (lists medium) medium server.post
+    → IsStanding (lists medium) (on_both medium) server.post
 is_standing medium server never = record {
   says = kept_text [];
-  node = unopened [] (counts_on medium never.disk);
+  node = unopened [] (paired (counts_on medium never.first) (counts_on medium never.backup));
   stands =
-      rw never.down (unopened_stands medium [] never.disk 0 never.empty).post;
+      rw never.down (unopened_stands medium [] never.first never.backup 0 never.empty never.empty_backup).post;
 }
+
+-- and can be started
+pub is_ready : {D : Type 0} (medium : Medium D) (server : ServerNode D) → IsUnopened medium server
+    → posts.Ready (on_both medium) server.post
+is_ready medium server never = rw never.down (refl, record { is = λ image left. both image left })
+  where
+    both : (image : Image) → MayLeave medium (placed false never.first never.backup) image
+        → image ≡ (on_both medium).reads (placed false never.first never.backup)
+    both image left =
+        let backup = by image.backup left.backup in
+        λ i. record { disk = never.empty.synced.is image.disk left.disk i; backup = backup i }
+      where
+        by : (image : Option (List ℕ)) → MayLeaveOf medium (Some never.backup) image → image ≡ Some (medium.reads never.backup)
+        by (Some j) left = ap (λ (bytes : List ℕ). Some bytes) (never.empty_backup.synced.is j left)
+        by None left = absurd left
 
 -- ---- one client more is declared
 
 module _ {D : Type 0} (medium : Medium D) (names : List (List ℕ)) (name : List ℕ) where
-  holds_more : (images : List ℕ → Type 0) (count : ℕ) (doubt : Option Doubt) (node : Node (List Commit)) → NodeIsKnown names node
-      → HoldsBy (lists medium) medium (kept_text names) images count doubt node
-      → HoldsBy (lists medium) medium (kept_text (names ++ name ∷ [])) images count doubt node
+  holds_more : (images : Image → Type 0) (count : ℕ) (doubt : Option Doubt) (node : Node (List Commit)) → NodeIsKnown names node
+      → HoldsBy (lists medium) (on_both medium) (kept_text names) images count doubt node
+      → HoldsBy (lists medium) (on_both medium) (kept_text (names ++ name ∷ [])) images count doubt node
   holds_more images count None node known it = record { sure = it.sure; each = it.each }
   holds_more images count (Some doubt) node known it = record {
     after = it.after;
@@ -327,16 +380,16 @@ module _ {D : Type 0} (medium : Medium D) (names : List (List ℕ)) (name : List
         ∙ sym (same_kept names name node.durable it.after (subst (AreKnownIfAny names) it.is known.doubt));
   }
 
-  posted_more : (post : Post (ServerKeeper D) D) (node : Node (List Commit)) → NodeIsKnown names node
-      → PostStands (lists medium) medium (kept_text names) post node
-      → PostStands (lists medium) medium (kept_text (names ++ name ∷ [])) post node
+  posted_more : (post : Post (ServerKeeper D) (Disks D)) (node : Node (List Commit)) → NodeIsKnown names node
+      → PostStands (lists medium) (on_both medium) (kept_text names) post node
+      → PostStands (lists medium) (on_both medium) (kept_text (names ++ name ∷ [])) post node
   posted_more (Up keeper) node known here =
       record { alive = here.alive; sure = here.sure; counts = here.counts; count = here.count; stands = here.stands }
   posted_more (Down fallen) node known here = record {
     alive = here.alive;
     counts = here.counts;
     count = here.count;
-    holds = holds_more (medium.may_leave fallen.disk) here.count fallen.doubt node known here.holds;
+    holds = holds_more (MayLeave medium fallen.disk) here.count fallen.doubt node known here.holds;
   }
   posted_more Between node known here = absurd here
 

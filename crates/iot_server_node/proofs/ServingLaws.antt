@@ -15,7 +15,14 @@ use Rattle.iot_server_node.specs.Prelude.{State, CanFollow, Leads, rules, after_
 use Rattle.iot_server_node.specs.Prelude.{next, run_entry, Commit, add_commit, tree_after, Call, Then, Node, changed, doubting}
 use Rattle.iot_server_node.specs.Prelude.{server_name, Lasts, HoldsEither, IsErrand, Spells, Handed, Message, Served, ServerNode, ActsHold}
 use Rattle.iot_server_node.specs.Prelude.{reads_of, turns, DiffersAt, Appends, commit_line, acts_output, EachIs, StepsTo}
-use Rattle.iot_server_node.specs.Prelude.{Act, Label, Reply}
+use Rattle.iot_server_node.specs.Prelude.{Act, Label, Reply, Changes, If, IsHandled, IsGrown, EachGoes, EachStarts, images_of, state_on}
+use Rattle.iot_node.specs.Keeping.{IsEither}
+use Rattle.iot_server.specs.Faults.{CutsOff}
+use Rattle.iot_store.proofs.PartsLaws.{changes_map}
+use Rattle.iot_store.specs.declared.commit.Commit.{Commit as Noted}
+use Rattle.iot_server_node.specs.Disks.{Image, MayLeave, on_both}
+use Rattle.iot_server_node.specs.Keepers.{RefusesFor, disks_in}
+use Rattle.iot_server_node.proofs.CountsLaws.{failed_counts}
 use Rattle.iot_disk.specs.declared.faults.JournalFault.TheVariants as append
 use Rattle.iot_server.specs.Servers as servers
 use Rattle.iot_wire.specs.Messages.{IsOneMessage}
@@ -77,7 +84,22 @@ module _ {D : Type 0} {medium : Medium D} (message : Message) (served : Served) 
       let answered = it.handled.answered in
       rw (one_request message _ _ it.handled.is asked) at answered
 
-  module _ (counted : served.committed ≡ committed_since (count_of (live was)) (count_of (live now))) where
+  -- of the second disk, too
+  pub answers_second : {request : Request} → IsMessage IsRequest request_spelling message.request.items request
+      → Changes (λ old new. IsAnswered (servers.state_of was) (state_on medium old) request served.reply.items (servers.state_of now)
+      (state_on medium new)) (servers.second_of was) (servers.second_of now)
+  answers_second {request} asked =
+      changes_map (λ old new. IsHandled (servers.state_of was) (state_on medium old) message.request.items served.reply.items
+      (servers.state_of now) (state_on medium new))
+      (λ old new. IsAnswered (servers.state_of was) (state_on medium old) request served.reply.items (servers.state_of now)
+      (state_on medium new))
+      (λ old new handled.
+      subst (λ (r : Request). IsAnswered (servers.state_of was) (state_on medium old) r served.reply.items (servers.state_of now)
+      (state_on medium new)) (one_request message _ _ handled.is asked) handled.answered)
+      (servers.second_of was) (servers.second_of now) it.second
+
+  module _ (given_up : Option D)
+      (counted : served.committed ≡ committed_since (count_of (live given_up was)) (count_of (live given_up now))) where
     -- what is to be said, by the state after it
     pub said_by : {after : State} → servers.state_of now ≡ after
         → said_of served.committed message.handed
@@ -94,41 +116,58 @@ pub by_servers : {D A : Type 0} {medium : Medium D} {names : List (List ℕ)} {c
     (Spelled : List ℕ → A → Type 0) (message : Message) (served : Served) {old new : ServerNode D} {y : List ℕ}
     → ServerIsSound medium old → Handled medium message.request.items served.reply.items old new
     → served.committed ≡ committed_since (count_of old) (count_of new)
-    → ((was now : Server D) → old ≡ live was → Handles medium message.request.items served.reply.items was now
-    → ServerIsSound medium (live was)
-    → served.committed ≡ committed_since (count_of (live was)) (count_of (live now))
-    → ServesBy medium names call Spelled message.handed (Some served) (live was) (live now) y y)
+    → ((given_up : Option D) (was now : Server D) → old ≡ live given_up was
+    → Handles medium message.request.items served.reply.items was now → ServerIsSound medium (live given_up was)
+    → served.committed ≡ committed_since (count_of (live given_up was)) (count_of (live given_up now))
+    → ServesBy medium names call Spelled message.handed (Some served) (live given_up was) (live given_up now) y y)
     → ServesBy medium names call Spelled message.handed (Some served) old new y y
 by_servers {medium = medium} Spelled message served sound handled counted serves =
     rw (handled.old_is, handled.new_is)
-    (serves handled.was handled.now handled.old_is handled.by (subst (ServerIsSound medium) handled.old_is sound)
+    (serves handled.given_up handled.was handled.now handled.old_is handled.by (subst (ServerIsSound medium) handled.old_is sound)
     (counted ∙ (λ i. committed_since (count_of (handled.old_is i)) (count_of (handled.new_is i)))))
 
 -- ---- one that has no reply
 
--- its disk has the list still, or what it may have if the server stopped, with what is in doubt then
+-- the bytes ask for a commit, which was cut off
+abbrev Cuts : {D : Type 0} → Medium D → (asked : List ℕ) → (was now : Server D) → Type 0
+Cuts medium asked was now = CutsOff medium (IsMessage IsRequest request_spelling asked) (servers.store_of was) (servers.store_of now)
+
+abbrev Starts : {D : Type 0} → Medium D → (now : Server D) → Type 0
+Starts medium now = If (λ s. EachStarts (medium.may_leave (servers.disk_of now)) (images_of medium s)) (servers.second_of now)
+
+-- its disks have the list still, or what they may have if a commit was cut off, with what is in doubt then
 pub refused_lasts : {D : Type 0} {medium : Medium D} {names : List (List ℕ)} {asked : List ℕ} (fault : JournalFault)
     {old mid new : ServerNode D} {node : Node (List Commit)} {n : ℕ} (alive : Bool) (doubt : Option (List Commit))
     → Refused medium asked fault old mid → disk_of new ≡ disk_of mid → ServerStands medium names old node n
-    → ((was now : Server D) (there : ServerStands medium names (live was) node n) → Refuses medium asked append.Stopped was now
-    → (bytes : List ℕ) → medium.may_leave (servers.disk_of now) bytes
-    → HoldsEither (lists medium) medium there.post.count (record node { alive = alive; doubt = doubt }) bytes)
-    → Lasts (lists medium) medium new.post (record node { alive = alive; doubt = doubt })
-refused_lasts {D} {medium} {names} {asked} fault {old} {mid} {new} {node} {n} alive doubt refused same here stopped = record {
-  disk = servers.disk_of refused.now;
+    → ((given_up : Option D) (was now : Server D) (there : ServerStands medium names (live given_up was) node n)
+    → Cuts medium asked was now → Starts medium now → (image : Image)
+    → MayLeave medium (disks_in (record { server = now; given_up = given_up })) image
+    → HoldsEither (lists medium) (on_both medium) there.post.count (record node { alive = alive; doubt = doubt }) image)
+    → Lasts (lists medium) (on_both medium) new.post (record node { alive = alive; doubt = doubt })
+refused_lasts {D} {medium} {names} {asked} fault {old} {mid} {new} {node} {n} alive doubt refused same here cut_off = record {
+  disk = disks_in (record { server = refused.now; given_up = refused.given_up });
   has = same ∙ ap disk_of refused.new_is;
   count = there.post.count;
-  each = record { each = by fault refused.by };
+  each = record { each = by fault refused.by.why };
 }
   where
-    there : ServerStands medium names (live refused.was) node n
+    there : ServerStands medium names (live refused.given_up refused.was) node n
     there = subst (λ (server : ServerNode D). ServerStands medium names server node n) refused.old_is here
 
-    by : (fault : JournalFault) → Refuses medium asked fault refused.was refused.now → (bytes : List ℕ)
-        → medium.may_leave (servers.disk_of refused.now) bytes
-        → HoldsEither (lists medium) medium there.post.count (record node { alive = alive; doubt = doubt }) bytes
-    by append.NoMemory kept bytes left = inl ((keeps_on there.post.stands kept).each bytes left)
-    by append.Stopped stops bytes left = stopped refused.was refused.now there stops bytes left
+    cuts : Cuts medium asked refused.was refused.now → (image : Image)
+        → MayLeave medium (disks_in (record { server = refused.now; given_up = refused.given_up })) image
+        → HoldsEither (lists medium) (on_both medium) there.post.count (record node { alive = alive; doubt = doubt }) image
+    cuts cut = cut_off refused.given_up refused.was refused.now there cut refused.by.restarts
+
+    by : (fault : JournalFault) → RefusesFor medium asked fault refused.was refused.now → (image : Image)
+        → MayLeave medium (disks_in (record { server = refused.now; given_up = refused.given_up })) image
+        → HoldsEither (lists medium) (on_both medium) there.post.count (record node { alive = alive; doubt = doubt }) image
+    by append.NoMemory lacks image left = elim lacks.either [
+      | inl kept ↦ inl ((keeps_on there.post.stands (servers.disk_of refused.now) (servers.second_of refused.now) refused.given_up
+          kept.first kept.second).each image left)
+      | inr cut ↦ cuts cut image left
+    ]
+    by append.Stopped stops image left = cuts stops.0 image left
 
 -- ---- a request for objects
 
@@ -164,6 +203,17 @@ still_after client held (Walk profile limit) reply (paths, picks, is, same) = sa
 
 module _ {D : Type 0} (medium : Medium D) (message : Message) (client : ℕ) (held : Stamps) (errand : Errand)
     (asks : IsErrand client held errand message.request.items) where
+  -- the second disk encodes what it did
+  second_still : (served : Served) {was now : Server D} → Handles medium message.request.items served.reply.items was now
+      → Changes (λ old new. state_on medium new ≡ state_on medium old) (servers.second_of was) (servers.second_of now)
+  second_still served {was} {now} it =
+      changes_map (λ old new. IsAnswered (servers.state_of was) (state_on medium old) (request_for client held errand) served.reply.items
+      (servers.state_of now) (state_on medium new))
+      (λ old new. state_on medium new ≡ state_on medium old)
+      (λ old new told. still_encodes client held errand told.reply (servers.state_of was) (state_on medium old) (state_on medium new)
+      told.encodes)
+      (servers.second_of was) (servers.second_of now) (answers_second message served it asks)
+
   -- what its tree has for it, and with that its tree cut down to this
   pub lends : (names : List (List ℕ)) (served : Served) {old new : ServerNode D} {y : List ℕ} → ServerIsSound medium old
       → Handled medium message.request.items served.reply.items old new
@@ -171,7 +221,7 @@ module _ {D : Type 0} (medium : Medium D) (message : Message) (client : ℕ) (he
       → ServesBy medium names (Lends (nodes_of held) errand) (SpellsCut (stamps_of old) held errand) message.handed (Some served) old new
       y y
   lends names served {old} sound handled counted =
-      by_servers (SpellsCut (stamps_of old) held errand) message served sound handled counted (λ was now is it sound counted.
+      by_servers (SpellsCut (stamps_of old) held errand) message served sound handled counted (λ given_up was now is it sound counted.
       let told = answers_it message served it asks in
       let stamped = list_stamped sound.node.durable in
       let stamps : stamps_of old ≡ (servers.state_of was).stamps = ap stamps_of is in
@@ -195,12 +245,12 @@ module _ {D : Type 0} (medium : Medium D) (message : Message) (client : ℕ) (he
             step = λ node here. (
               [],
               node,
-              ap (λ (text : List ℕ). x ++ text) (still_silent message served it counted answered.1),
+              ap (λ (text : List ℕ). x ++ text) (still_silent message served it given_up counted answered.1),
               (refl, ap (λ (s : State). Some (lent (nodes_of held) errand s.tree)) here.post.stands.has_state, refl),
               stands_still medium names it here
                   (still_encodes client held errand told.reply (servers.state_of was) (servers.encoded_on medium was)
                   (servers.encoded_on medium now) told.encodes)
-                  answered.1,
+                  (second_still served it) answered.1,
             );
           },
         ),
@@ -214,23 +264,24 @@ module _ {D : Type 0} (medium : Medium D) (message : Message) (client : ℕ) (he
       ap stamps_of handled.new_is ∙ ap (λ (s : State). s.stamps) (still_after client held errand told.reply told.answers)
       ∙ sym (ap stamps_of handled.old_is)
 
-  appends_nothing : (was now : Server D) → Refuses medium message.request.items append.Stopped was now → ⊥
-  appends_nothing was now stops =
-      no_commit client held errand _ _ _ (one_request message _ _ stops.0.asked asks)
+  appends_nothing : (was now : Server D) → Cuts medium message.request.items was now → ⊥
+  appends_nothing was now cut = no_commit client held errand _ _ _ (one_request message _ _ cut.asked asks)
 
   -- it does not stop in that, since it appends nothing
   pub lends_always : {fault : JournalFault} {old new : ServerNode D} → fault ≡ append.Stopped
       → Refused medium message.request.items fault old new → ⊥
   lends_always stopped refused =
-      let stops = refused.by in
-      appends_nothing refused.was refused.now (rw stopped at stops)
+      let why =
+      subst (λ (f : JournalFault). RefusesFor medium message.request.items f refused.was refused.now) stopped refused.by.why in
+      appends_nothing refused.was refused.now why.0
 
-  -- its disk has the list still, if memory runs out
+  -- its disks have the list still, if memory runs out
   pub lends_lasts : {names : List (List ℕ)} (fault : JournalFault) {old mid new : ServerNode D} (node : Node (List Commit)) {n : ℕ}
       → Refused medium message.request.items fault old mid → disk_of new ≡ disk_of mid → ServerStands medium names old node n
-      → Lasts (lists medium) medium new.post node
+      → Lasts (lists medium) (on_both medium) new.post node
   lends_lasts fault node refused same here =
-      refused_lasts fault node.alive node.doubt refused same here (λ was now there stops bytes left. absurd (appends_nothing was now stops))
+      refused_lasts fault node.alive node.doubt refused same here (λ given_up was now there cut starts image left.
+      absurd (appends_nothing was now cut))
 
 -- ---- a submission
 
@@ -270,6 +321,40 @@ not_listed labels client tid none =
     ap (option_map (λ place. place + 1))
     (position_from-zero (store.is_of client tid) labels ∙ no_place (store.is_of client tid) labels 0 none)
 
+-- ---- what is encoded after a submission
+
+-- a commit makes another state
+other_state : (before : State) (label : Label) (access : Access) → after_commit before label access ≡ before → ⊥
+other_state before label access same =
+    omega (arith, ap (λ (s : State). length s.labels) same, length-append before.labels (label ∷ []))
+
+-- if the state is what it was, so is what is encoded
+same_by : (before after : State) (label : Label) (access : Access) (lines : List (List ℕ)) (reply : Reply) (found : Option ℕ)
+    (was now : Encoded) → Submits found before label access reply after
+    → EncodesAfter (requests.Commit label access lines) reply before was now → after ≡ before → now ≡ was
+same_by before after label access lines (replies.Committed number) (Some place) was now (replied, made) it same = absurd cc
+same_by before after label access lines (replies.Committed number) None was now (Holds, holds, inl (fit, replied, made)) it same =
+    absurd (other_state before label access (sym made ∙ same))
+same_by before after label access lines (replies.Committed number) None was now (Holds, holds, inr (misfit, replied, made)) it same =
+    absurd cc
+same_by before after label access lines (replies.Committed number) None was now (Differs place answer, judged, (replied, made)) it same =
+    absurd cc
+same_by before after label access lines reply found was now submits it same = it
+
+-- if it is that after the commit, its record was added
+grown_by : (before after : State) (label : Label) (access : Access) (lines : List (List ℕ)) (reply : Reply) (found : Option ℕ)
+    (was now : Encoded) → Submits found before label access reply after
+    → EncodesAfter (requests.Commit label access lines) reply before was now → after ≡ after_commit before label access
+    → IsGrown was before (record { label = label; access = access; lines = lines }) now
+grown_by before after label access lines (replies.Committed number) found was now submits it more = it
+grown_by before after label access lines reply (Some place) was now (replied, made) it more =
+    absurd (other_state before label access (sym more ∙ made))
+grown_by before after label access lines reply None was now (Holds, holds, inl (fit, replied, made)) it more = absurd cc
+grown_by before after label access lines reply None was now (Holds, holds, inr (misfit, replied, made)) it more =
+    absurd (other_state before label access (sym more ∙ made))
+grown_by before after label access lines reply None was now (Differs place answer, judged, (replied, made)) it more =
+    absurd (other_state before label access (sym more ∙ made))
+
 -- ---- a message that hands one in
 
 module _ {message : Message} {it : Submission} (hands : IsHanded message it) where
@@ -295,8 +380,8 @@ module _ {message : Message} {it : Submission} (hands : IsHanded message it) whe
   takes_there commits = takes (tree_after commits) (list_tree commits) (list_whole commits)
 
   -- a live server with a list
-  module _ {D : Type 0} {medium : Medium D} {was : Server D} {count : ℕ} {commits : List Commit}
-      (keeps : KeepsList medium (record { server = was }) count commits) where
+  module _ {D : Type 0} {medium : Medium D} {was : Server D} {given_up : Option D} {count : ℕ} {commits : List Commit}
+      (keeps : KeepsList medium (record { server = was; given_up = given_up }) count commits) where
     -- the number among its labels is the one in its list
     number_is : number_in (servers.state_of was).labels label.client label.tid ≡ number_of it.commit commits
     number_is =
@@ -340,28 +425,38 @@ module _ {message : Message} {it : Submission} (hands : IsHanded message it) whe
           ∙ (λ i. commit_line ((counts ∙ counted_there) i + 1) (sym is.name i) (sym is.has_label i).way
           ++ acts_output (sym does_same i).acts)
 
-  -- the server stopped as it was to append its record
-  module _ {D : Type 0} (medium : Medium D) (was now : Server D) (stops : Refuses medium message.request.items append.Stopped was now) where
-    its_own : (stops.0.label ≡ label) × (stops.0.access ≡ access) × (stops.0.lines ≡ lines_of acts)
+  -- its commit was cut off
+  module _ {D : Type 0} (medium : Medium D) (was now : Server D) (cut : Cuts medium message.request.items was now)
+      (starts : Starts medium now) where
+    its_own : (cut.label ≡ label) × (cut.access ≡ access) × (cut.lines ≡ lines_of acts)
     its_own =
-        let same = one_request message _ _ stops.0.asked hands.asked in
+        let same = one_request message _ _ cut.asked hands.asked in
         (cc, cc, cc)
 
-    follows : CanFollow (servers.state_of was) label access
-    follows =
-        let cut = stops.0.follows in
-        rw (its_own.0, its_own.1) at cut
+    abbrev noted : Noted
+    noted = record { label = label; access = access; lines = lines_of acts }
 
-    module _ {count : ℕ} {commits : List Commit} (keeps : KeepsList medium (record { server = was }) count commits) where
+    its_noted : record { label = cut.label; access = cut.access; lines = cut.lines } ≡ noted
+    its_noted = λ i. record { label = its_own.0 i; access = its_own.1 i; lines = its_own.2 i }
+
+    follows : CanFollow (servers.state_of was) label access
+    follows = subst (λ (c : Noted). CanFollow (servers.state_of was) c.label c.access) its_noted cut.follows
+
+    module _ {given_up : Option D} {count : ℕ} {commits : List Commit}
+        (keeps : KeepsList medium (record { server = was; given_up = given_up }) count commits) where
       there_are : AreOf it.commit (tree_after commits) label access (lines_of acts)
       there_are = are keeps follows.holds
 
-      -- each image has the list without it, or with it
-      either_list : EachIs (medium.may_leave (servers.disk_of now))
-          (λ bytes. IsImage bytes count commits ⊎ IsImage bytes (next count) (add_commit it.commit commits))
-      either_list =
-          let goes = stops.0.encodes in
-          cut_images keeps there_are follows (rw (its_own.0, its_own.1, its_own.2) at goes)
+      -- each image has the list without it, or is in its midst
+      either_list : (other : Option D) → EachIs (MayLeave medium (disks_in (record { server = now; given_up = other })))
+          (λ image. IsEither (lists medium) image count commits (add_commit it.commit commits))
+      either_list other =
+          cut_images keeps there_are follows now other
+          (subst (λ (c : Noted). EachGoes rules (medium.may_leave (servers.disk_of now)) (servers.encoded_on medium was)
+          (servers.state_of was) c) its_noted cut.encodes)
+          (subst (λ (c : Noted). Changes (λ old new. EachGoes rules (images_of medium new) (state_on medium old) (servers.state_of was) c)
+          (servers.second_of was) (servers.second_of now)) its_noted cut.second_encodes)
+          starts
 
       -- the state of the list is that before it, and it leads to the state after it
       leads_on : Leads (rules Two) (message.request.items ∷ []) (state_of commits) (state_of (add_commit it.commit commits))
@@ -376,17 +471,17 @@ module _ {message : Message} {it : Submission} (hands : IsHanded message it) whe
     is_known : IsKnown names it.commit
     is_known = record { spelled = is.spelled; client = named.client }
 
-    module _ (was : Server D) where
+    module _ (given_up : Option D) (was : Server D) where
       -- a step of this server
       abbrev Steps : {A : Type 0} → (n k : ℕ) → Call (Node (List Commit)) A → ServerNode D → (x y : List ℕ) → A → Type 0
-      Steps n k call new x y a = StepsTo (HavingAnswered medium names n) (HavingAnswered medium names k) call (live was) new x y a
+      Steps n k call new x y a = StepsTo (HavingAnswered medium names n) (HavingAnswered medium names k) call (live given_up was) new x y a
 
       -- it is judged by its number
       by_number : {n k : ℕ} {new : ServerNode D} {x y : List ℕ} {verdict : Option serving.Verdict} (found : Option ℕ)
           → number_in (servers.state_of was).labels label.client label.tid ≡ found
           → Steps n k (serving.judged it found) new x y verdict → Steps n k (Judges it) new x y verdict
       by_number found listed judged =
-          bind _ _ _ _ _ _ found _ (asks (live was) _ found (λ node here. sym listed ∙ number_is here.post.stands)) judged
+          bind _ _ _ _ _ _ found _ (asks (live given_up was) _ found (λ node here. sym listed ∙ number_is here.post.stands)) judged
 
       -- one that holds is certified: it is to be appended, and says so
       judged_well : {n k : ℕ} {new : ServerNode D} {x y : List ℕ} {verdict : Option serving.Verdict} {number : ℕ}
@@ -398,7 +493,7 @@ module _ {message : Message} {it : Submission} (hands : IsHanded message it) whe
       judged_well {number = number} none hold numbered appends =
           let commits =
           bind _ _ _ _ _ _ (printed_under (number + 1) message.handed) _
-          (asks (live was) _ _ (λ node here. says_it here.post.stands hold numbered)) appends in
+          (asks (live given_up was) _ _ (λ node here. says_it here.post.stands hold numbered)) appends in
           by_number None none (record {
             step = λ node here.
                 let done = commits.step node here in (
@@ -412,9 +507,10 @@ module _ {message : Message} {it : Submission} (hands : IsHanded message it) whe
           })
 
     -- it is judged
-    module _ (served : Served) (y : List ℕ) {was now : Server D} (done : Handles medium message.request.items served.reply.items was now)
-        (counted : served.committed ≡ committed_since (count_of (live was)) (count_of (live now)))
-        (sound : ServerIsSound medium (live was)) where
+    module _ (served : Served) (y : List ℕ) (given_up : Option D) {was now : Server D}
+        (done : Handles medium message.request.items served.reply.items was now)
+        (counted : served.committed ≡ committed_since (count_of (live given_up was)) (count_of (live given_up now)))
+        (sound : ServerIsSound medium (live given_up was)) where
       takes_here : TakesPlace access.reads access.places access.updates acts (servers.state_of was).tree
       takes_here =
           subst (λ (s : State). TakesPlace access.reads access.places access.updates acts s.tree) (sym sound.stands.post.stands.has_state)
@@ -432,11 +528,42 @@ module _ {message : Message} {it : Submission} (hands : IsHanded message it) whe
           (judges_acts (servers.state_of was).tree access acts (Differs place answer) takes_here judged)
 
       abbrev Serves : Type 0
-      Serves = ServesBy medium names (Judges it) (SpellsVerdict it.reads) message.handed (Some served) (live was) (live now) y y
+      Serves =
+          ServesBy medium names (Judges it) (SpellsVerdict it.reads) message.handed (Some served) (live given_up was)
+          (live given_up now) y y
 
       told : IsAnswered (servers.state_of was) (servers.encoded_on medium was) (requests.Commit label access (lines_of acts))
           served.reply.items (servers.state_of now) (servers.encoded_on medium now)
       told = answers_it message served done hands.asked
+
+      -- what the second disk encodes, by the state after it
+      second_told : Changes (λ old new. IsAnswered (servers.state_of was) (state_on medium old)
+          (requests.Commit label access (lines_of acts)) served.reply.items (servers.state_of now) (state_on medium new))
+          (servers.second_of was) (servers.second_of now)
+      second_told = answers_second message served done hands.asked
+
+      second_same : servers.state_of now ≡ servers.state_of was
+          → Changes (λ old new. state_on medium new ≡ state_on medium old) (servers.second_of was) (servers.second_of now)
+      second_same made =
+          changes_map (λ old new. IsAnswered (servers.state_of was) (state_on medium old)
+          (requests.Commit label access (lines_of acts)) served.reply.items (servers.state_of now) (state_on medium new))
+          (λ old new. state_on medium new ≡ state_on medium old)
+          (λ old new told. same_by (servers.state_of was) (servers.state_of now) label access (lines_of acts) told.reply _ _ _ told.answers
+          told.encodes made)
+          (servers.second_of was) (servers.second_of now) second_told
+
+      second_grown : servers.state_of now ≡ after_commit (servers.state_of was) label access
+          → Changes (λ old new. IsGrown (state_on medium old) (servers.state_of was)
+          (record { label = label; access = access; lines = lines_of acts }) (state_on medium new))
+          (servers.second_of was) (servers.second_of now)
+      second_grown made =
+          changes_map (λ old new. IsAnswered (servers.state_of was) (state_on medium old)
+          (requests.Commit label access (lines_of acts)) served.reply.items (servers.state_of now) (state_on medium new))
+          (λ old new. IsGrown (state_on medium old) (servers.state_of was)
+          (record { label = label; access = access; lines = lines_of acts }) (state_on medium new))
+          (λ old new told. grown_by (servers.state_of was) (servers.state_of now) label access (lines_of acts) told.reply _ _ _ told.answers
+          told.encodes made)
+          (servers.second_of was) (servers.second_of now) second_told
 
       module _ {reply : Reply} (replied : told.reply ≡ reply) where
         spelled : Spells served.reply.items reply
@@ -453,38 +580,38 @@ module _ {message : Message} {it : Submission} (hands : IsHanded message it) whe
       -- this is the verdict, and this is to be said
       serves : (verdict : serving.Verdict) {said : List ℕ} → SpellsVerdict it.reads served.reply.items verdict
           → said_of served.committed message.handed ≡ said
-          → ((n : ℕ) (x : List ℕ) → Steps was n (n + 1) (Judges it) (live now) x (x ++ said) (Some verdict)) → Serves
+          → ((n : ℕ) (x : List ℕ) → Steps given_up was n (n + 1) (Judges it) (live given_up now) x (x ++ said) (Some verdict)) → Serves
       serves verdict spells said steps = (refl, (verdict, spells, λ n x. rw said (steps n x)))
 
       by_found : (found : Option ℕ) → number_in (servers.state_of was).labels label.client label.tid ≡ found
           → Submits found (servers.state_of was) label access told.reply (servers.state_of now) → Serves
       by_found (Some number) listed (replied, made) =
-          serves (Settled number) (inr (spelled replied)) (still_silent message served done counted made) (λ n x.
-          by_number was (Some number) listed (record {
+          serves (Settled number) (inr (spelled replied)) (still_silent message served done given_up counted made) (λ n x.
+          by_number given_up was (Some number) listed (record {
             step = λ node here.
-                ([], node, refl, (refl, refl, refl), stands_still medium names done here (recorded replied) made);
+                ([], node, refl, (refl, refl, refl), stands_still medium names done here (recorded replied) (second_same made) made);
           }))
       by_found None none (Holds, holds, inl (fit, replied, made)) =
           let number : ℕ = length (servers.state_of was).labels in
           let more : length (after_commit (servers.state_of was) label access).labels ≡ number + 1 =
           length-append (servers.state_of was).labels (label ∷ []) in
           serves (Settled (number + 1)) (inl (spelled replied))
-          (said_by message served done counted made
+          (said_by message served done given_up counted made
           ∙ ap (λ (n : ℕ). said_of (committed_since number n) message.handed) more ∙ commit_is_said number message.handed)
           (λ n x.
-          judged_well was none holds refl
-          (bind _ (live now) _ _ x _ true _
+          judged_well given_up was none holds refl
+          (bind _ (live given_up now) _ _ x _ true _
           (record {
             step = λ node here. (
               [],
               changed (add_commit it.commit) node,
               sym (append-nil x),
               inl (refl, refl, refl),
-              stands_longer medium names done here (are here.post.stands holds) (recorded replied) made is_known,
+              stands_longer medium names done here (are here.post.stands holds) (recorded replied) (second_grown made) made is_known,
             );
           })
-          (bind _ _ _ _ _ _ tt _ (says_this _ (live now) _ _ refl)
-          (asks (live now) _ _ (λ node here.
+          (bind _ _ _ _ _ _ tt _ (says_this _ (live given_up now) _ _ refl)
+          (asks (live given_up now) _ _ (λ node here.
           ap (λ (k : ℕ). Some (Settled k))
           (sym more ∙ ap (λ (s : State). length s.labels) (sym made) ∙ counted_there here.post.stands))))))
       by_found None none (Holds, holds, inr (misfit, replied, made)) = absurd (misfit (fits_there holds))
@@ -501,15 +628,15 @@ module _ {message : Message} {it : Submission} (hands : IsHanded message it) whe
           ] in
           serves (Conflict place found.0.question)
           (found.0, record { answer = answer; spelled = spelled replied; first = within.0; at = found.1 }, refl)
-          (still_silent message served done counted made) (λ n x.
-          by_number was None none (record {
+          (still_silent message served done given_up counted made) (λ n x.
+          by_number given_up was None none (record {
             step = λ node here. (
               [],
               node,
               refl,
               refused it node is.base acts is.has_acts is.reads (list_tree node.durable) place differs.0 found.0
                   (subst (λ (s : State). DiffersAt (turns s.tree acts) 1 place differs.0) here.post.stands.has_state differs.1) found.1,
-              stands_still medium names done here (recorded replied) made,
+              stands_still medium names done here (recorded replied) (second_same made) made,
             );
           }))
 
@@ -518,8 +645,8 @@ module _ {message : Message} {it : Submission} (hands : IsHanded message it) whe
         → served.committed ≡ committed_since (count_of old) (count_of new)
         → ServesBy medium names (Judges it) (SpellsVerdict it.reads) message.handed (Some served) old new y y
     judges served {y = y} sound handled counted =
-        by_servers (SpellsVerdict it.reads) message served sound handled counted (λ was now is done sound counted.
-        by_found served y done counted sound _ refl (told served y done counted sound).answers)
+        by_servers (SpellsVerdict it.reads) message served sound handled counted (λ given_up was now is done sound counted.
+        by_found served y given_up done counted sound _ refl (told served y given_up done counted sound).answers)
 
     -- the server stops as it commits it
     pub judges_stopped : {fault : JournalFault} {old mid new : ServerNode D} {number : ℕ} {x y : List ℕ} → fault ≡ append.Stopped
@@ -528,19 +655,24 @@ module _ {message : Message} {it : Submission} (hands : IsHanded message it) whe
         → ((n : ℕ) → HasAnsweredIn n new.post)
         → ServesBy medium names (Judges it) (SpellsVerdict it.reads) message.handed None old new x y
     judges_stopped stopped refused numbered gives_up off =
-        let stops = subst (λ (f : JournalFault). Refuses medium message.request.items f refused.was refused.now) stopped refused.by in
-        let after = follows medium refused.was refused.now stops in
+        let why = subst (λ (f : JournalFault). RefusesFor medium message.request.items f refused.was refused.now) stopped refused.by.why in
+        let starts = refused.by.restarts in
+        let after = follows medium refused.was refused.now why.0 starts in
         let counts = numbered ∙ ap count_of refused.old_is in
         λ n.
         rw refused.old_is
-        (judged_well refused.was (not_listed _ label.client label.tid after.is_new) after.holds counts
+        (judged_well refused.given_up refused.was (not_listed _ label.client label.tid after.is_new) after.holds counts
         (bind _ _ _ _ _ _ false None
         (with_known_there medium names
         (record {
           step = λ node here.
-              gives_up.step (record { server = refused.was }) (record { server = refused.now }) (add_commit it.commit) node
+              gives_up.step (record { server = refused.was; given_up = refused.given_up })
+              (record { server = refused.now; given_up = refused.given_up }) (add_commit it.commit) node
               (ap (λ (server : ServerNode _). server.post) refused.new_is) here
-              (rw stopped ((λ k keeps. either_list medium refused.was refused.now stops keeps), stops.1))
+              (rw stopped (
+                (λ k keeps. either_list medium refused.was refused.now why.0 starts keeps refused.given_up),
+                failed_counts medium refused.was refused.now refused.given_up refused.by.arms why.1,
+              ))
               (record {
                 count = λ k commits keeps. counts ∙ as_many keeps;
                 lines = λ k commits keeps.
@@ -550,18 +682,19 @@ module _ {message : Message} {it : Submission} (hands : IsHanded message it) whe
         })
         (λ node after text here.
         known_stopped names it.commit node after text message.request.items is_known
-        (leads_on medium refused.was refused.now stops here.stands))
+        (leads_on medium refused.was refused.now why.0 starts here.stands))
         (λ had. off n))
         (answers _ _ _ None (λ node here. here))))
 
-  -- its disk has the list, or the list with it, if memory runs out
+  -- its disks have the list, or the list with it, if memory runs out
   pub judges_lasts : {D : Type 0} {medium : Medium D} {names : List (List ℕ)} (fault : JournalFault) {old mid new : ServerNode D}
       (node : Node (List Commit)) {n : ℕ}
       → Refused medium message.request.items fault old mid → disk_of new ≡ disk_of mid → ServerStands medium names old node n
-      → Lasts (lists medium) medium new.post (doubting (add_commit it.commit) node)
+      → Lasts (lists medium) (on_both medium) new.post (doubting (add_commit it.commit) node)
   judges_lasts {medium = medium} fault node refused same here =
-      refused_lasts fault false (Some (add_commit it.commit node.durable)) refused same here (λ was now there stops bytes left.
-      elim ((either_list medium was now stops there.post.stands).each bytes left) [
+      refused_lasts fault false (Some (add_commit it.commit node.durable)) refused same here
+      (λ given_up was now there cut starts image left.
+      elim ((either_list medium was now cut starts there.post.stands given_up).each image left) [
         | inl is ↦ inl is
         | inr is ↦ inr (add_commit it.commit node.durable, refl, is)
       ])

@@ -1,11 +1,12 @@
--- What the server's disk keeps of the machine's list: a checkpoint of its first commits, and a record for each of the others.
-use Rattle.std.specs.Prelude.{◌≡◌, ℕ, List, [], ◌∷◌, ◌++◌, length, Option, None, Some}
-use Rattle.iot_server_node.specs.Prelude.{Medium, Nodes, run_entry, State, record_spelling, Commit, tree_after}
+-- What the server's disks keep of the machine's list: a checkpoint of its first commits, and a record for each of the others.
+use Rattle.std.specs.Prelude.{◌≡◌, ◌⊎◌, ℕ, List, [], ◌∷◌, ◌++◌, length, Option, None, Some}
+use Rattle.iot_server_node.specs.Prelude.{Storing, Nodes, run_entry, State, record_spelling, Commit, tree_after, If, next, LacksLast}
 use Rattle.iot_access.specs.Access.{access_of, lines_of}
 use Rattle.iot_server_node.specs.Prelude.{StandFor, rules, Leads, header, records_in, Decoded, Encodes, NotStarted, Foreign, Damaged}
-use Rattle.iot_server_node.specs.Prelude.{Encoded, decoded}
+use Rattle.iot_server_node.specs.Prelude.{Encoded, decoded, MayFollow}
 use Rattle.iot_slots.specs.declared.version.Version.TheVariants.{Two}
 use Rattle.iot_store.specs.Bodies.{IsBody}
+use Rattle.iot_server_node.specs.Disks.{Image}
 pub use Rattle.iot_judging.specs.Lists.{stamps_from, state_of}
 pub use Rattle.iot_machine.specs.Recorded.{label_of}
 
@@ -39,7 +40,29 @@ pub record IsImage (bytes : List ℕ) (count : ℕ) (commits : List Commit) : Ty
   pub many : records_in bytes ≡ count
   pub counted : count ≡ length commits
 
--- ---- from which states it goes on, whatever became of a call
+-- ---- of both disks
+
+-- an image of each stands for the list
+pub record AreImages (image : Image) (count : ℕ) (commits : List Commit) : Type 0 where
+  pub disk : IsImage image.disk count commits
+  pub backup : If (λ bytes. IsImage bytes count commits) image.backup
+
+-- The second one lacks the last commit of the longer list: it stands for the list before it. That commit's record is the last one of the
+-- first, and a start from both can bring the second up.
+pub record LacksCommit (one other : List ℕ) (count : ℕ) (commits longer : List Commit) : Type 0 where
+  pub commit : Commit
+  pub is : longer ≡ commits ++ commit ∷ []
+  pub image : IsImage other count commits
+  pub lacks : LacksLast rules one other (state_of longer)
+  pub before : lacks.before ≡ state_of commits
+  pub follows : MayFollow one other
+
+-- in the midst of a commit the first one has it, and the second has it or lacks it
+pub record AreTurning (image : Image) (count : ℕ) (commits longer : List Commit) : Type 0 where
+  pub disk : IsImage image.disk (next count) longer
+  pub backup : If (λ bytes. LacksCommit image.disk bytes count commits longer ⊎ IsImage bytes (next count) longer) image.backup
+
+-- ---- from which states they go on, whatever became of a call
 
 -- the bytes stand for a state to which commits lead from this one, each of which can follow the ones before it
 pub record GoesOnFrom (from : State) (bytes : List ℕ) : Type 0 where
@@ -48,15 +71,20 @@ pub record GoesOnFrom (from : State) (bytes : List ℕ) : Type 0 where
   pub records : List (List ℕ)
   pub leads : Leads (rules Two) records from state
 
--- so is each image of the disk
-pub record EachGoesOn {D : Type 0} (medium : Medium D) (from : State) (disk : D) : Type 0 where
-  pub each : (image : List ℕ) → medium.may_leave disk image → GoesOnFrom from image
+-- those of both are so
+pub record GoOnFrom (from : State) (image : Image) : Type 0 where
+  pub disk : GoesOnFrom from image.disk
+  pub backup : If (GoesOnFrom from) image.backup
 
--- there is a disk, and it is so
-abbrev pub DiskGoesOn : {D : Type 0} → Medium D → State → Option D → Type 0
+-- so is each image of the disks
+pub record EachGoesOn {P : Type 0} (medium : Storing P Image) (from : State) (disks : P) : Type 0 where
+  pub each : (image : Image) → medium.may_leave disks image → GoOnFrom from image
+
+-- there are disks, and they are so
+abbrev pub DiskGoesOn : {P : Type 0} → Storing P Image → State → Option P → Type 0
 DiskGoesOn medium from None = ⊥
-DiskGoesOn medium from (Some disk) = EachGoesOn medium from disk
+DiskGoesOn medium from (Some disks) = EachGoesOn medium from disks
 
--- from whatever state each image of the old disk goes on, each image of the new one goes on from that, too
-pub record KeepsRecords {D : Type 0} (medium : Medium D) (old new : Option D) : Type 0 where
+-- from whatever state each image of the old disks goes on, each image of the new ones goes on from that, too
+pub record KeepsRecords {P : Type 0} (medium : Storing P Image) (old new : Option P) : Type 0 where
   pub keeps : (from : State) → DiskGoesOn medium from old → DiskGoesOn medium from new

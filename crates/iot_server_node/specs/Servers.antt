@@ -1,6 +1,6 @@
 -- The server as a node, alive or down: for which node of the machine it stands, and what it does.
 use Rattle.std.specs.Prelude.{◌≡◌, ℕ, ◌+◌, ◌<◌, ◌%◌, ◌^◌, Bool, true, false, List, [], ◌∷◌, ◌++◌, length, map, Option, Some, None, IsSome}
-use Rattle.std.specs.Prelude.{slice_index_or, option_map, Err}
+use Rattle.std.specs.Prelude.{slice_index_or, option_map, is_some, Err}
 use Rattle.std.specs.List.{AllByRecursion}
 use Rattle.iot_access.specs.Access.{access_of, after_updates, lines_of}
 use Rattle.iot_tree.specs.declared.access.Access.{Access}
@@ -8,6 +8,8 @@ use Rattle.iot_server_node.specs.Prelude.{Nodes, IsTree, Act, Label, reads_of, M
 use Rattle.iot_server_node.specs.Prelude.{Node, server_name, kept_text, Appends, transaction_name, acts_output, IsEmpty, Appended, Doubts}
 use Rattle.iot_server_node.specs.Prelude.{PostStands, UpStands, StepsFrom, is_on, StepsTo, Doubt, Post, Up, Down, Between, Server}
 use Rattle.iot_server_node.specs.Prelude.{IsMessage, IsRequest, request_spelling, ServerKeeper, Handed, Message, Served, ServerNode, Leads}
+use Rattle.iot_server_node.specs.Prelude.{Arms, ComesBackAs, Disks, KeepsDisk, armed, armed_with, arming_as, promote_words}
+use Rattle.iot_disk.specs.declared.disk.Pick.{Pick}
 use Rattle.iot_slots.specs.declared.version.Version.TheVariants.{Two}
 use Rattle.iot_server_node.specs.Prelude.{rules}
 use Rattle.iot_judging.specs.Entries.{IsSpelledEntry}
@@ -18,28 +20,63 @@ use Rattle.iot_server.specs.Servers as servers
 use Rattle.iot_wire.specs.declared.requests.Request.TheVariants as requests
 use Rattle.iot_stamp.specs.Stamps.{Stamps}
 use Rattle.iot_store.specs.Stamps.{opening_stamps}
-use Rattle.iot_server_node.specs.Keepers.{lists, traffic_in, Handles, Refuses}
+use Rattle.iot_server_node.specs.Disks.{IsPlaced, on_both, placed, sides, sides_of, turned}
+use Rattle.iot_server_node.specs.Keepers.{disks_in, lists, traffic_in, Handles, Refuses}
 use Rattle.iot_server_node.specs.Messages.{said_of}
 use Rattle.iot_server_node.specs.Records.{DiskGoesOn, label_of, state_of}
 
 -- ---- what it has
 
-abbrev pub post_of : {D : Type 0} → ServerNode D → Post (ServerKeeper D) D
+abbrev pub post_of : {D : Type 0} → ServerNode D → Post (ServerKeeper D) (Disks D)
 post_of server = server.post
 
 abbrev pub is_up : {D : Type 0} → ServerNode D → Bool
 is_up server = is_on server.post
 
--- its disk, which it has except inside a call that starts or stops it
-abbrev pub disk_of : {D : Type 0} → ServerNode D → Option D
-disk_of server = posts.disk_of (λ keeper. servers.disk_of keeper.server) server.post
+-- its disks, which it has except inside a call that starts or stops it
+abbrev pub disk_of : {D : Type 0} → ServerNode D → Option (Disks D)
+disk_of server = posts.disk_of disks_in server.post
 
--- it has a disk
+-- it has its disks
 abbrev pub HasDisk : {D : Type 0} → ServerNode D → Type 0
 HasDisk server = IsSome (disk_of server)
 
+-- whether its backup was promoted: a disk was given up then
+abbrev pub given_up_in : {D : Type 0} → Option (Disks D) → Bool
+given_up_in (Some disks) = is_some disks.given_up
+given_up_in None = false
+
+abbrev pub is_promoted : {D : Type 0} → ServerNode D → Bool
+is_promoted server = given_up_in (disk_of server)
+
+-- The backup was promoted, or the server still has it; and its other disk, which is the backup until then, and later the one that was given
+-- up, was armed so.
+pub record IsBeside {D : Type 0} (medium : Medium D) (server : ServerNode D) (promoted : Bool) (arms : Arms) : Type 0 where
+  pub is : option_map (sides_of medium) (disk_of server) ≡ Some (sides promoted arms)
+
+-- that is so in some way
+pub record HasOther {D : Type 0} (medium : Medium D) (server : ServerNode D) : Type 0 where
+  pub promoted : Bool
+  pub arms : Arms
+  pub beside : IsBeside medium server promoted arms
+
+-- and stays as it is
+abbrev pub KeepsBeside : {D : Type 0} → Medium D → (old new : ServerNode D) → Type 0
+KeepsBeside medium old new = (promoted : Bool) (arms : Arms) → IsBeside medium old promoted arms → IsBeside medium new promoted arms
+
+-- these are the disks of a live server, and one that was given up, if one was
+pub record HasDisks {D : Type 0} (it : Server D) (disks : Option (Disks D)) : Type 0 where
+  pub given_up : Option D
+  pub is : disks ≡ Some (disks_in (record { server = it; given_up = given_up }))
+
+-- it has its disks in their places
+pub record HasPlaces {D : Type 0} (server : ServerNode D) : Type 0 where
+  pub disks : Disks D
+  pub has : disk_of server ≡ Some disks
+  pub placed : IsPlaced disks
+
 -- the live server itself
-abbrev pub lent_in : {D : Type 0} → Post (ServerKeeper D) D → Option (Server D)
+abbrev pub lent_in : {D : Type 0} → Post (ServerKeeper D) (Disks D) → Option (Server D)
 lent_in (Up keeper) = Some keeper.server
 lent_in (Down fallen) = None
 lent_in Between = None
@@ -52,7 +89,7 @@ abbrev pub tree_of : {D : Type 0} → ServerNode D → Option Nodes
 tree_of server = option_map (λ it. (servers.state_of it).tree) (lent_of server)
 
 -- the stamps of a live server's tree
-abbrev pub stamps_in : {D : Type 0} → Post (ServerKeeper D) D → Stamps
+abbrev pub stamps_in : {D : Type 0} → Post (ServerKeeper D) (Disks D) → Stamps
 stamps_in (Up keeper) = (servers.state_of keeper.server).stamps
 stamps_in (Down fallen) = opening_stamps
 stamps_in Between = opening_stamps
@@ -61,7 +98,7 @@ abbrev pub stamps_of : {D : Type 0} → ServerNode D → Stamps
 stamps_of server = stamps_in server.post
 
 -- how many commits a live server has
-abbrev pub count_in : {D : Type 0} → Post (ServerKeeper D) D → ℕ
+abbrev pub count_in : {D : Type 0} → Post (ServerKeeper D) (Disks D) → ℕ
 count_in (Up keeper) = length (servers.state_of keeper.server).labels
 count_in (Down fallen) = 0
 count_in Between = 0
@@ -101,7 +138,7 @@ pub record NodeIsKnown (names : List (List ℕ)) (node : Node (List Commit)) : T
   pub longer : IsOneMoreIfAny node.durable node.doubt
 
 -- a live server has answered so many requests since its start, as far as it can count
-abbrev pub HasAnsweredIn : {D : Type 0} → ℕ → Post (ServerKeeper D) D → Type 0
+abbrev pub HasAnsweredIn : {D : Type 0} → ℕ → Post (ServerKeeper D) (Disks D) → Type 0
 HasAnsweredIn n (Up keeper) = (traffic_in keeper).requests ≡ n % 2 ^ 64
 HasAnsweredIn n (Down fallen) = Unit {0}
 HasAnsweredIn n Between = Unit {0}
@@ -112,7 +149,7 @@ HasAnswered n server = HasAnsweredIn n server.post
 -- it stands for this node of the machine, where the clients have these names, and has answered so many requests
 pub record ServerStands {D : Type 0} (medium : Medium D) (names : List (List ℕ)) (server : ServerNode D) (node : Node (List Commit))
     (requests : ℕ) : Type 0 where
-  pub post : PostStands (lists medium) medium (kept_text names) server.post node
+  pub post : PostStands (lists medium) (on_both medium) (kept_text names) server.post node
   pub known : NodeIsKnown names node
   pub answered : HasAnswered requests server
 
@@ -139,16 +176,51 @@ abbrev pub LendsServer : {D : Type 0} → Option (Server D) → Node (List Commi
 LendsServer None node count = node.alive ≡ false
 LendsServer (Some it) node count = IsServerOf it node count
 
--- whatever list the old server has, each image of the new one's disk goes on from its state
+-- whatever list the old server has, each image of the new one's disks goes on from its state
 pub record KeepsCommits {D : Type 0} (medium : Medium D) (old new : ServerNode D) : Type 0 where
   pub keeps : (names : List (List ℕ)) (node : Node (List Commit)) (n : ℕ) → ServerStands medium names old node n
-      → DiskGoesOn medium (state_of node.durable) (disk_of new)
+      → DiskGoesOn (on_both medium) (state_of node.durable) (disk_of new)
 
--- it was never started, and its disk is empty
+-- it was never started, and its disk and its backup are empty
 pub record IsUnopened {D : Type 0} (medium : Medium D) (server : ServerNode D) : Type 0 where
-  pub disk : D
-  pub down : server.post ≡ Down (record { disk = disk; doubt = None })
-  pub empty : IsEmpty medium disk
+  pub first : D
+  pub backup : D
+  pub down : server.post ≡ Down (record { disk = placed false first backup; doubt = None })
+  pub empty : IsEmpty medium first
+  pub empty_backup : IsEmpty medium backup
+
+-- ---- it goes on from its backup
+
+-- the same node over the disks that it has then
+abbrev pub turned_post : {D : Type 0} → Post (ServerKeeper D) (Disks D) → Post (ServerKeeper D) (Disks D)
+turned_post (Down fallen) = Down (record fallen { disk = turned fallen.disk })
+turned_post (Up keeper) = Up keeper
+turned_post Between = Between
+
+-- The first disk was given up, whatever came of the call: it is the other one from now on, and the backup is the server's. Neither was
+-- armed, and the sum of their counts of faults is what it was or rose.
+pub record TurnsToBackup {D : Type 0} (medium : Medium D) (old new : ServerNode D) : Type 0 where
+  pub disks : KeepsDisk (on_both medium) (disk_of (record { post = turned_post old.post })) (disk_of new)
+  pub beside : option_map (sides_of medium) (disk_of new) ≡ option_map (sides_of medium) (disk_of (record { post = turned_post old.post }))
+
+-- What the machine's server does at a promotion, if it is down and its backup was not promoted: it comes back from that, or stops again.
+pub record Promotes {D : Type 0} (medium : Medium D) (names : List (List ℕ)) (old new : ServerNode D) (before after : List ℕ) : Type 0 where
+  pub step : (node : Node (List Commit)) (n : ℕ) (arms : Arms) → ServerStands medium names old node n → IsBeside medium old false arms
+      → (text : List ℕ) × (on : Bool) × (next : Node (List Commit)) × (after ≡ before ++ text)
+      × ComesBackAs promote_words server_name (kept_text names) (arming_as arms node) text on next
+      × ServerStands medium names new next 0 × IsBeside medium new true node.counts.arms
+
+-- ---- the backup is armed, or the server's own disk if that was promoted
+
+abbrev pub ArmsServersBackup : {D : Type 0} → Medium D → (calls : ℕ) → Pick → (promoted : Bool) → (old new : ServerNode D) → Type 0
+ArmsServersBackup medium calls pick false old new =
+    (names : List (List ℕ)) (node : Node (List Commit)) (n : ℕ) (arms : Arms) → ServerStands medium names old node n
+    → IsBeside medium old false arms
+    → ServerStands medium names new node n × IsBeside medium new false (armed_with arms calls pick)
+ArmsServersBackup medium calls pick true old new =
+    (names : List (List ℕ)) (node : Node (List Commit)) (n : ℕ) (arms : Arms) → ServerStands medium names old node n
+    → IsBeside medium old true arms
+    → ServerStands medium names new (armed calls pick node) n × IsBeside medium new true arms
 
 -- how many requests it has answered, if it is started unless it is alive
 abbrev pub answered_since : (was_alive : Bool) → ℕ → ℕ
@@ -195,22 +267,24 @@ pub record IsNamedIn (names : List (List ℕ)) (it : Submission) : Type 0 where
 
 -- ---- requests
 
--- it is this server, alive
-abbrev pub live : {D : Type 0} → Server D → ServerNode D
-live it = record { post = Up (record { server = it }) }
+-- it is this server, alive, which gave this disk up, if it did
+abbrev pub live : {D : Type 0} → (given_up : Option D) → Server D → ServerNode D
+live given_up it = record { post = Up (record { server = it; given_up = given_up }) }
 
 -- it is alive, and nothing is under way
 pub record IsLive {D : Type 0} (medium : Medium D) (server : ServerNode D) : Type 0 where
+  pub given_up : Option D
   pub it : Server D
-  pub up : server ≡ live it
+  pub up : server ≡ live given_up it
   pub synced : servers.IsSynced medium it
 
 -- a live server did this, and is alive still
 pub record Lives {D : Type 0} (By : Server D → Server D → Type 0) (old new : ServerNode D) : Type 0 where
+  pub given_up : Option D
   pub was : Server D
   pub now : Server D
-  pub old_is : old ≡ live was
-  pub new_is : new ≡ live now
+  pub old_is : old ≡ live given_up was
+  pub new_is : new ≡ live given_up now
   pub by : By was now
 
 -- it has handled a request, and replied
@@ -226,10 +300,11 @@ Refused medium asked fault = Lives (Refuses medium asked fault)
 pub record GivesUp {D : Type 0} (medium : Medium D) (names : List (List ℕ)) (fault : JournalFault) (doubt : Doubt) (old new : ServerNode D)
     (before after : List ℕ) : Type 0 where
   pub step : (was now : ServerKeeper D) (change : List Commit → List Commit) (node : Node (List Commit)) → old.post ≡ Up now
-      → UpStands (lists medium) medium (kept_text names) was node
-      → Appended (lists medium) medium {T = Unit {0}} change node.durable was now (Err fault)
+      → UpStands (lists medium) (on_both medium) (kept_text names) was node
+      → Appended (lists medium) (on_both medium) {T = Unit {0}} change node.durable was now (Err fault)
       → Doubts (lists medium) (kept_text names) change was doubt
-      → StepsFrom (PostStands (lists medium) medium (kept_text names)) (Appends server_name change) node new.post before after false
+      → StepsFrom (PostStands (lists medium) (on_both medium) (kept_text names)) (Appends server_name change) node new.post before after
+      false
 
 -- The call is what a live server does with a request: it stops and gives no reply, which it says; or it answers what the bytes of the
 -- reply spell, and says nothing. What is to be said of a commit is what the call says: whoever called says it.

@@ -1,32 +1,45 @@
-//! What keeps the list of commits on the server's disk.
-ghost use Rattle.std.specs.Prelude.{Some, IfOk, IfErr};
+//! What keeps the list of commits on the server's disks.
+ghost use Rattle.std.specs.Prelude.{◌≡◌, Some, None, IfOk, IfErr};
+ghost use Rattle.iot_backup.specs.declared.faults.TwinFault.TheVariants.{Disk as OfDisk};
+ghost use Rattle.iot_disk.specs.Disk.{Only};
+ghost use Rattle.iot_durable.specs.Causes.{TakesBoth};
 ghost use Rattle.iot_node.specs.Disks.{KeepsDisk};
-ghost use Rattle.iot_server.specs.Servers.{IsSynced, disk_of};
+ghost use Rattle.iot_node.specs.Keeping.{CanStart, Comes, Fails};
+ghost use Rattle.iot_server.specs.Servers.{IsSynced};
 ghost use Rattle.iot_server.specs.Traffic.{no_traffic};
 ghost use Rattle.iot_server.specs.declared.traffic.Traffic.{Traffic};
 ghost use Rattle.iot_server_node.specs.Messages.{IsSomeRequest};
 
+use crate::disks::Disks;
+use iot_backup::TwinFault;
 use iot_disk::{Disk, JournalFault, Pick, StartFault};
 use iot_node::Keeper;
 use iot_server::{Server, ServerFault};
 use std::alloc::Global;
 
-/// A server, which keeps the list of commits. Beside that it has counted what it received and sent.
+/// A server, which keeps the list of commits, and the disk that was given up, if one was. Beside that it has counted what it received and
+/// sent.
 #[derive(Drop)]
 pub struct ServerKeeper<D: Disk> {
     pub(crate) server: Server<D>,
+    pub(crate) given_up: Option<D>,
 }
 
 impl<D: Disk> ServerKeeper<D> {
-    ghost use Rattle.iot_server_node.specs.Keepers.{Handles, Refuses};
+    ghost use Rattle.iot_machine.specs.Machine.{Commit};
+    ghost use Rattle.std.specs.Prelude.{ℕ, List};
+    ghost use Rattle.iot_server_node.specs.Disks.{ArmsOther, IsPlaced, on_both, sides_of};
+    ghost use Rattle.iot_server_node.specs.Keepers.{Handles, Refuses, disks_in, lists, traffic_in};
 
-    /// What the server replies to a request that is well formed. It has no reply only if there is no memory, or the disk fails.
+    /// What the server replies to a request that is well formed. It has no reply only if there is no memory, or a disk fails.
     pub(crate) fn handle(&mut self, alloc: Global, request: &[u8]) -> Result<Vec<u8>, JournalFault>
         requires synced { IsSynced D.medium self.old.server }
         requires request { IsSomeRequest request.now }
         ensures handled { IfOk result (λ reply. Handles D.medium request.now reply.items self.old.server self.new.server) }
         ensures refused { IfErr result (λ fault. Refuses D.medium request.now fault self.old.server self.new.server) }
-        ensures disk { KeepsDisk D.medium (Some (disk_of self.old.server)) (Some (disk_of self.new.server)) }
+        ensures given_up { self.new.given_up ≡ self.old.given_up }
+        ensures disk { KeepsDisk (on_both D.medium) (Some (disks_in self.old)) (Some (disks_in self.new)) }
+        ensures beside { sides_of D.medium (disks_in self.new) ≡ sides_of D.medium (disks_in self.old) }
     {
         match self.server.handle(alloc, request) {
             Ok(reply) => Ok(reply),
@@ -37,14 +50,95 @@ impl<D: Disk> ServerKeeper<D> {
             },
         }
     }
+
+    /// Makes a later device call of the backup fail, or of the server's own disk if that was promoted.
+    pub(crate) fn arm_other(&mut self, calls: u64, pick: Pick)
+        requires { IsPlaced (disks_in self.old) }
+        ensures arms { ArmsOther D.medium calls pick (disks_in self.old) (disks_in self.new) }
+        ensures stands { (n : ℕ) (commits : List Commit) → (lists D.medium).stands self.old n commits
+            → (lists D.medium).stands self.new n commits }
+        ensures live { traffic_in self.new ≡ traffic_in self.old }
+    {
+        let second = self.given_up.is_none();
+        self.server.arm(second, calls, pick);
+    }
+
+    /// Starts from a disk and its backup.
+    fn start_pair(
+        alloc: Global,
+        disk: D,
+        backup: D,
+        given_up: Option<D>,
+    ) -> Result<Self, (Disks<D>, StartFault)>
+        requires first { Only (D.medium.reads disk) (D.medium.may_leave disk) }
+        requires second { Only (D.medium.reads backup) (D.medium.may_leave backup) }
+        requires can { CanStart (lists D.medium) (record { disk = D.medium.reads disk; backup = Some (D.medium.reads backup) }) }
+        ensures comes { IfOk result (Comes (lists D.medium) (on_both D.medium)
+            (record { disk = disk; backup = Some backup; given_up = given_up })) }
+        ensures live { IfOk result (λ made. traffic_in made ≡ no_traffic) }
+        ensures beside { IfOk result (λ made. sides_of D.medium (disks_in made)
+            ≡ sides_of D.medium (record { disk = disk; backup = Some backup; given_up = given_up })) }
+        ensures fails { IfErr result (λ refused. Fails (lists D.medium) (on_both D.medium)
+            (record { disk = disk; backup = Some backup; given_up = given_up }) refused.0 refused.1) }
+        ensures left { IfErr result (λ refused. sides_of D.medium refused.0
+            ≡ sides_of D.medium (record { disk = disk; backup = Some backup; given_up = given_up })) }
+    {
+        match Server::start_pair(alloc, disk, backup) {
+            Ok(server) => Ok(ServerKeeper { server, given_up }),
+            Err((disk, backup, fault)) => Err((
+                Disks {
+                    disk,
+                    backup: Some(backup),
+                    given_up,
+                },
+                of_twin(fault),
+            )),
+        }
+    }
+
+    /// Starts from a disk that is alone.
+    fn start_alone(
+        alloc: Global,
+        disk: D,
+        given_up: Option<D>,
+    ) -> Result<Self, (Disks<D>, StartFault)>
+        requires only { Only (D.medium.reads disk) (D.medium.may_leave disk) }
+        requires can { CanStart (lists D.medium) (record { disk = D.medium.reads disk; backup = None }) }
+        ensures comes { IfOk result (Comes (lists D.medium) (on_both D.medium)
+            (record { disk = disk; backup = None; given_up = given_up })) }
+        ensures live { IfOk result (λ made. traffic_in made ≡ no_traffic) }
+        ensures beside { IfOk result (λ made. sides_of D.medium (disks_in made)
+            ≡ sides_of D.medium (record { disk = disk; backup = None; given_up = given_up })) }
+        ensures fails { IfErr result (λ refused. Fails (lists D.medium) (on_both D.medium)
+            (record { disk = disk; backup = None; given_up = given_up }) refused.0 refused.1) }
+        ensures left { IfErr result (λ refused. sides_of D.medium refused.0
+            ≡ sides_of D.medium (record { disk = disk; backup = None; given_up = given_up })) }
+    {
+        match Server::start(alloc, disk) {
+            Ok(server) => Ok(ServerKeeper { server, given_up }),
+            Err((disk, fault)) => Err((
+                Disks {
+                    disk,
+                    backup: None,
+                    given_up,
+                },
+                fault,
+            )),
+        }
+    }
 }
 
-impl<D: Disk> Keeper<D> for ServerKeeper<D> {
+impl<D: Disk> Keeper<Disks<D>> for ServerKeeper<D> {
+    ghost use Rattle.iot_server_node.specs.Disks.{Image as DisksImage, Sides, on_both, reads_may_leave, sides_of};
     ghost use Rattle.iot_server_node.specs.Keepers.{lists, traffic_in};
     ghost use Rattle.iot_machine.specs.Machine.{Commit};
     ghost use Rattle.std.specs.Prelude.{List};
 
     ghost Kept = { List Commit };
+
+    ghost Image = { DisksImage };
+
+    ghost medium = { on_both D.medium };
 
     // There is one server alone, so its place says nothing.
     ghost keeping = { λ place. lists D.medium };
@@ -55,10 +149,19 @@ impl<D: Disk> Keeper<D> for ServerKeeper<D> {
 
     ghost fresh = { no_traffic };
 
-    fn start(alloc: Global, disk: D, _place: u64) -> Result<Self, (D, StartFault)> {
-        match Server::start(alloc, disk) {
-            Ok(server) => Ok(ServerKeeper { server }),
-            Err(refused) => Err(refused),
+    ghost Beside = { Sides };
+
+    ghost beside = { sides_of D.medium };
+
+    fn start(alloc: Global, disk: Disks<D>, _place: u64) -> Result<Self, (Disks<D>, StartFault)> {
+        let Disks {
+            disk,
+            backup,
+            given_up,
+        } = disk;
+        match backup {
+            Some(backup) => ServerKeeper::start_pair(alloc, disk, backup, given_up),
+            None => ServerKeeper::start_alone(alloc, disk, given_up),
         }
     }
 
@@ -67,10 +170,37 @@ impl<D: Disk> Keeper<D> for ServerKeeper<D> {
     }
 
     fn arm(&mut self, calls: u64, pick: Pick) {
-        self.server.arm(calls, pick);
+        self.server.arm(false, calls, pick);
     }
 
-    fn into_disk(self) -> D {
-        self.server.into_disk()
+    fn into_disk(self) -> Disks<D> {
+        let ServerKeeper { server, given_up } = self;
+        let (disk, backup) = server.into_disks();
+        Disks {
+            disk,
+            backup,
+            given_up,
+        }
+    }
+
+    fn restart(disk: &mut Disks<D>) {
+        disk.restart();
+    }
+
+    fn arm_down(disk: &mut Disks<D>, calls: u64, pick: Pick) {
+        disk.arm(calls, pick);
+    }
+
+    ghost reads_is_image = { reads_may_leave D.medium D.reads_is_image };
+}
+
+/// Why a start from two disks, neither of which nor their counts are refused, gives no server.
+fn of_twin(fault: TwinFault) -> StartFault
+    requires { TakesBoth fault }
+    ensures { fault ≡ OfDisk result }
+{
+    match fault {
+        TwinFault::Disk(fault) => fault,
+        TwinFault::Apart { .. } => unreachable!(),
     }
 }

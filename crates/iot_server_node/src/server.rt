@@ -1,33 +1,39 @@
 //! The server as a node: it answers requests as long as it is alive.
-ghost use Rattle.std.specs.Prelude.{◌≡◌, ◌+◌, ◌<◌, ◌^◌, [], ℕ, List, true, false, Some, IfOk, IfErr, OnOk, IfSome, is_some};
+ghost use Rattle.std.specs.Prelude.{◌≡◌, ◌⊎◌, ◌+◌, ◌<◌, ◌^◌, ◌++◌, [], ℕ, Bool, List, true, false, Some, codes, is_some};
+ghost use Rattle.std.specs.Prelude.{IfOk, IfErr, OnOk, IfSome};
 ghost use Rattle.std.specs.Option.{option_copied};
 ghost use Rattle.iot_disk.specs.declared.faults.JournalFault.TheVariants.{Stopped};
-ghost use Rattle.iot_machine.specs.Texts.{tree_text};
+ghost use Rattle.iot_machine.specs.Texts.{line, stop_line, tree_text};
 ghost use Rattle.iot_server_node.specs.Prelude.{Commit, add_commit, tree_after, Node, unopened, doubting, Submission, Lends, Judges};
-ghost use Rattle.iot_server_node.specs.Prelude.{server_name, kept_text, OpensNode, Crashes, Restarts, ArmsDisk, Shows, IsEmpty, IsErrand, Errand};
-ghost use Rattle.iot_server_node.specs.Prelude.{KeepsDisk, counts_on, Lasts, CameIf, StepsTo};
+ghost use Rattle.iot_server_node.specs.Prelude.{server_name, backup_name, kept_text, OpensNode, Crashes, Restarts, ArmsDisk, Shows};
+ghost use Rattle.iot_server_node.specs.Prelude.{IsEmpty};
+ghost use Rattle.iot_server_node.specs.Prelude.{IsErrand, Errand, paired};
+ghost use Rattle.iot_server_node.specs.Prelude.{KeepsDisk, counts_on, Lasts, CameIf, StepsTo, words_of, Promote, Restart};
 ghost use Rattle.iot_server.specs.Servers as servers;
 ghost use Rattle.iot_server_node.specs.Deciding.{DecidesServer};
-ghost use Rattle.iot_server_node.specs.Keepers.{lists};
+ghost use Rattle.iot_server_node.specs.Disks.{on_both, placed};
+ghost use Rattle.iot_server_node.specs.Keepers.{disks_in, lists};
 ghost use Rattle.iot_server_node.specs.Messages.{committed_since};
 ghost use Rattle.iot_server_node.specs.Records.{KeepsRecords};
 ghost use Rattle.iot_stamp.specs.Stamps.{Stamps, nodes_of};
 ghost use Rattle.iot_text.specs.Texts.{Extends};
 
+use crate::disks::Disks;
 use crate::keeper::ServerKeeper;
 use crate::message::Message;
 use iot_disk::{Disk, JournalFault, Pick};
 use iot_inspect::show;
-use iot_node::{Doubt, Fallen, Halt, Post, say};
+use iot_node::{Comeback, Doubt, Fallen, Halt, Post, say, say_stop};
 use iot_server::Server;
 use iot_text::{NoMemory, Text};
 use iot_tree::Tree;
 use std::alloc::Global;
+use std::mem;
 
 /// The server, alive or down.
 #[derive(Drop)]
 pub struct ServerNode<D: Disk> {
-    post: Post<ServerKeeper<D>, D>,
+    post: Post<ServerKeeper<D>, Disks<D>>,
 }
 
 /// What came of a request that the server answered.
@@ -47,15 +53,24 @@ impl<D: Disk> ServerNode<D> {
     ghost use Rattle.iot_server_node.specs.Servers.{HavingAnswered};
     ghost use Rattle.iot_server_node.specs.Servers.{ServerIsSound, IsUnopened, HasDisk, IsLive, Handled, Refused, GivesUp, ServesBy};
     ghost use Rattle.iot_server_node.specs.Servers.{IsHanded, IsNamedIn, LendsServer, KeepsCommits, answered_since};
+    ghost use Rattle.iot_server_node.specs.Servers.{is_promoted, turned_post, IsBeside, HasOther, HasDisks, KeepsBeside, Promotes};
+    ghost use Rattle.iot_server_node.specs.Servers.{ArmsServersBackup, TurnsToBackup};
 
-    /// A server on an empty disk, which was never started.
-    pub fn unopened(disk: D) -> ServerNode<D>
-        requires { IsEmpty D.medium disk }
-        ensures stands { (names : List (List ℕ)) (n : ℕ)
-            → ServerStands D.medium names result (unopened [] (counts_on D.medium disk)) n }
+    /// A server on an empty disk, of which another empty one is the backup. It was never started.
+    pub fn unopened(first: D, backup: D) -> ServerNode<D>
+        requires first { IsEmpty D.medium first }
+        requires backup { IsEmpty D.medium backup }
+        ensures stands { (names : List (List ℕ)) (n : ℕ) → ServerStands D.medium names result
+            (unopened [] (paired (counts_on D.medium first) (counts_on D.medium backup))) n }
         ensures unopened { IsUnopened D.medium result }
-        ensures disk { disk_of result ≡ Some disk }
+        ensures disk { disk_of result ≡ Some (placed false first backup) }
+        ensures beside { IsBeside D.medium result false (D.medium.arms backup) }
     {
+        let disk = Disks {
+            disk: first,
+            backup: Some(backup),
+            given_up: None,
+        };
         ServerNode {
             post: Post::Down(Fallen { disk, doubt: None }),
         }
@@ -68,7 +83,8 @@ impl<D: Disk> ServerNode<D> {
         ensures step { IfOk result (λ on. (names : List (List ℕ)) (n : ℕ)
             → StepsTo (HavingAnswered D.medium names n) (HavingAnswered D.medium names 0) (OpensNode server_name)
             self.old self.new out.old out.new on) }
-        ensures disk { KeepsDisk D.medium (disk_of self.old) (disk_of self.new) }
+        ensures disk { KeepsDisk (on_both D.medium) (disk_of self.old) (disk_of self.new) }
+        ensures beside { KeepsBeside D.medium self.old self.new }
 
         // Also if memory runs out.
         ensures records { KeepsCommits D.medium self.old self.new }
@@ -103,18 +119,19 @@ impl<D: Disk> ServerNode<D> {
             → ServesBy D.medium names (Judges it) (SpellsVerdict it.reads) message.now.handed served
             self.old self.new out.old out.new) }
 
-        // If memory runs out, the disk still holds the list of commits, or that and the transaction that was handed in.
+        // If memory runs out, the disks still hold the list of commits, or that and the transaction that was handed in.
         ensures lends_lasts { IfErr result (λ _. (client : ℕ) (held : Stamps) (errand : Errand) (names : List (List ℕ)) (n : ℕ)
             (node : Node (List Commit)) → IsErrand client held errand message.now.request.items
-            → ServerStands D.medium names self.old node n → Lasts (lists D.medium) D.medium (post_of self.new) node) }
+            → ServerStands D.medium names self.old node n → Lasts (lists D.medium) (on_both D.medium) (post_of self.new) node) }
         ensures judges_lasts { IfErr result (λ _. (it : Submission) (names : List (List ℕ)) (n : ℕ)
             (node : Node (List Commit)) → IsHanded message.now it
             → ServerStands D.medium names self.old node n
-            → Lasts (lists D.medium) D.medium (post_of self.new) (doubting (add_commit it.commit) node)) }
+            → Lasts (lists D.medium) (on_both D.medium) (post_of self.new) (doubting (add_commit it.commit) node)) }
 
         // Whatever comes of it, no commit is lost.
-        ensures records { KeepsRecords D.medium (disk_of self.old) (disk_of self.new) }
-        ensures disk { KeepsDisk D.medium (disk_of self.old) (disk_of self.new) }
+        ensures records { KeepsRecords (on_both D.medium) (disk_of self.old) (disk_of self.new) }
+        ensures disk { KeepsDisk (on_both D.medium) (disk_of self.old) (disk_of self.new) }
+        ensures beside { KeepsBeside D.medium self.old self.new }
     {
         let before = self.number();
         match self.handle(alloc, message) {
@@ -136,7 +153,8 @@ impl<D: Disk> ServerNode<D> {
         ensures handled { IfOk result (λ reply.
             Handled D.medium message.now.request.items reply.items self.old self.new) }
         ensures refused { IfErr result (λ fault. Refused D.medium message.now.request.items fault self.old self.new) }
-        ensures disk { KeepsDisk D.medium (disk_of self.old) (disk_of self.new) }
+        ensures disk { KeepsDisk (on_both D.medium) (disk_of self.old) (disk_of self.new) }
+        ensures beside { KeepsBeside D.medium self.old self.new }
     {
         match &mut self.post {
             Post::Up(keeper) => keeper.handle(alloc, &message.request),
@@ -178,9 +196,9 @@ impl<D: Disk> ServerNode<D> {
         }
     }
 
-    // ---- crashes, restarts, and its disk
+    // ---- crashes, restarts, and its disks
 
-    /// Loses its memory: what is not on its disk is gone.
+    /// Loses its memory: what is not on its disks is gone.
     pub fn crash(&mut self, out: &mut Text) -> Result<(), NoMemory>
         requires { HasDisk self.old }
         ensures down { OnOk result (is_up self.new ≡ false) }
@@ -188,13 +206,14 @@ impl<D: Disk> ServerNode<D> {
             → StepsTo (HavingAnswered D.medium names n) (HavingAnswered D.medium names n) (Crashes server_name)
             self.old self.new out.old out.new tt) }
         ensures same { disk_of self.new ≡ disk_of self.old }
-        ensures disk { KeepsDisk D.medium (disk_of self.old) (disk_of self.new) }
+        ensures disk { KeepsDisk (on_both D.medium) (disk_of self.old) (disk_of self.new) }
+        ensures beside { KeepsBeside D.medium self.old self.new }
     {
         self.post.crash(b"server", out)
     }
 
-    /// Comes back from one of the images that its disk may have. A commit that was in doubt is printed if it was kept. If the disk fails
-    /// in that, the server has stopped again, and what was in doubt still is.
+    /// Comes back from one of the images that its disk and its backup may have. A commit that was in doubt is printed if it was kept. If a
+    /// disk fails in that, the server has stopped again, and what was in doubt still is.
     #[tactic(auto, using(crate::proofs::BeginningLaws::commits_same))]
     pub fn restart(&mut self, alloc: Global, out: &mut Text) -> Result<(), NoMemory>
         requires { ServerIsSound D.medium self.old }
@@ -207,21 +226,81 @@ impl<D: Disk> ServerNode<D> {
         // The image that it came back from decides whether the commit in doubt was kept.
         ensures came { OnOk result ((names : List (List ℕ)) (n : ℕ) (node : Node (List Commit))
             → ServerStands D.medium names self.old node n
-            → CameIf (lists D.medium) D.medium (is_up self.new) (post_of self.old) server_name out.old out.new node) }
+            → CameIf (lists D.medium) (on_both D.medium) (is_up self.new) (post_of self.old) (words_of Restart server_name)
+            out.old out.new node) }
 
         // So if all images of its disk have the commit that is in doubt, or none has it, that decides whether it is kept.
-        ensures decided { OnOk result (DecidesServer D.medium self.old out.old out.new) }
+        ensures decided { OnOk result (DecidesServer D.medium Restart self.old out.old out.new) }
         ensures lasts { (names : List (List ℕ)) (n : ℕ) (node : Node (List Commit))
-            → ServerStands D.medium names self.old node n → Lasts (lists D.medium) D.medium (post_of self.new) node }
+            → ServerStands D.medium names self.old node n → Lasts (lists D.medium) (on_both D.medium) (post_of self.new) node }
         ensures records { KeepsCommits D.medium self.old self.new }
-        ensures disk { KeepsDisk D.medium (disk_of self.old) (disk_of self.new) }
+        ensures disk { KeepsDisk (on_both D.medium) (disk_of self.old) (disk_of self.new) }
+        ensures beside { KeepsBeside D.medium self.old self.new }
     {
         if self.is_up() {
             say(b"up", out)?;
             return Ok(());
         }
-        self.post.come_back(alloc, 0, b"server", out)?;
+        self.post
+            .come_back(alloc, Comeback::Restart, 0, b"server", out)?;
         Ok(())
+    }
+
+    /// Comes back from one of the images that its backup may have, which is its disk from then on: the first disk is given up, also if
+    /// the server stops again in this. Whether a commit that was in doubt was kept is told as by a restart. One that is alive stays as it
+    /// is, and so does one whose backup was promoted before.
+    #[tactic(auto, using(crate::proofs::BeginningLaws::commits_same))]
+    pub fn promote(&mut self, alloc: Global, out: &mut Text) -> Result<(), NoMemory>
+        requires sound { ServerIsSound D.medium self.old }
+        requires other { HasOther D.medium self.old }
+        ensures up { is_up self.old ≡ true → OnOk result (out.new ≡ out.old ++ line (codes "up")) }
+        ensures nothing { is_up self.old ≡ false → is_promoted self.old ≡ true
+            → OnOk result (out.new ≡ out.old ++ line (codes "nothing")) }
+        ensures stays { (is_up self.old ≡ true) ⊎ (is_promoted self.old ≡ true) → self.new ≡ self.old }
+        ensures step { is_up self.old ≡ false → is_promoted self.old ≡ false → OnOk result ((names : List (List ℕ))
+            → Promotes D.medium names self.old self.new out.old out.new) }
+        ensures turns { is_up self.old ≡ false → is_promoted self.old ≡ false → TurnsToBackup D.medium self.old self.new }
+
+        // The image of the backup that it came back from decides whether the commit in doubt was kept.
+        ensures came { is_promoted self.old ≡ false → OnOk result ((names : List (List ℕ)) (n : ℕ) (node : Node (List Commit))
+            → ServerStands D.medium names self.old node n
+            → CameIf (lists D.medium) (on_both D.medium) (is_up self.new) (turned_post (post_of self.old))
+            (words_of Promote server_name) out.old out.new node) }
+
+        // So if all images of the backup have the commit that is in doubt, or none has it, that decides whether it is kept.
+        ensures decided { is_promoted self.old ≡ false → OnOk result (DecidesServer D.medium Promote self.old out.old out.new) }
+        ensures lasts { (names : List (List ℕ)) (n : ℕ) (node : Node (List Commit))
+            → ServerStands D.medium names self.old node n → Lasts (lists D.medium) (on_both D.medium) (post_of self.new) node }
+        ensures records { KeepsCommits D.medium self.old self.new }
+    {
+        if self.is_up() {
+            say(b"up", out)?;
+            return Ok(());
+        }
+        if self.is_promoted() {
+            say(b"nothing", out)?;
+            return Ok(());
+        }
+        self.turn();
+        self.post
+            .come_back(alloc, Comeback::Promote, 0, b"server", out)?;
+        Ok(())
+    }
+
+    /// Gives its first disk up for its backup.
+    fn turn(&mut self)
+        requires down { is_up self.old ≡ false }
+        requires own { is_promoted self.old ≡ false }
+        requires other { HasOther D.medium self.old }
+        ensures { post_of self.new ≡ turned_post (post_of self.old) }
+    {
+        match mem::replace(&mut self.post, Post::Between) {
+            Post::Down(Fallen { disk, doubt }) => {
+                let disk = disk.turn();
+                self.post.turn_to(Post::Down(Fallen { disk, doubt }));
+            }
+            _other => unreachable!(),
+        }
     }
 
     /// Makes a later call of its disk fail, and says so.
@@ -231,18 +310,36 @@ impl<D: Disk> ServerNode<D> {
             → StepsTo (HavingAnswered D.medium names n) (HavingAnswered D.medium names n) (ArmsDisk server_name calls pick)
             self.old self.new out.old out.new tt) }
         ensures same { IfErr result (λ _. self.new ≡ self.old) }
-        ensures disk { IfErr result (λ _. KeepsDisk D.medium (disk_of self.old) (disk_of self.new)) }
+        ensures disk { IfErr result (λ _. KeepsDisk (on_both D.medium) (disk_of self.old) (disk_of self.new)) }
+        ensures beside { KeepsBeside D.medium self.old self.new }
         ensures text { Extends out.old out.new }
     {
         self.post.arm(calls, pick, b"server", out)
     }
 
-    /// Gives its disk back.
-    pub fn into_disk(self) -> D
-        requires { HasDisk self }
-        ensures { disk_of self ≡ Some result }
+    /// Makes a later call of its backup fail, or of its own disk if the backup was promoted, and says so.
+    pub fn arm_backup(&mut self, calls: u64, pick: Pick, out: &mut Text) -> Result<(), NoMemory>
+        requires { HasOther D.medium self.old }
+        ensures said { OnOk result (out.new ≡ out.old ++ stop_line backup_name calls pick) }
+        ensures step { OnOk result ((promoted : Bool) → ArmsServersBackup D.medium calls pick promoted self.old self.new) }
+        ensures same { IfErr result (λ _. self.new ≡ self.old) }
+        ensures text { Extends out.old out.new }
     {
-        self.post.into_disk()
+        say_stop(b"backup", calls, pick, out)?;
+        match &mut self.post {
+            Post::Up(keeper) => keeper.arm_other(calls, pick),
+            Post::Down(fallen) => fallen.disk.arm_other(calls, pick),
+            Post::Between => (),
+        }
+        Ok(())
+    }
+
+    /// Gives its disks back: the first and the last.
+    pub fn into_disks(self) -> (D, D)
+        requires { HasOther D.medium self }
+        ensures { disk_of self ≡ Some (placed (is_promoted self) result.0 result.1) }
+    {
+        self.post.into_disk().into_places()
     }
 
     // ---- looking in
@@ -267,12 +364,23 @@ impl<D: Disk> ServerNode<D> {
         self.post.is_up()
     }
 
+    /// Whether its backup was promoted.
+    pub fn is_promoted(&self) -> bool
+        ensures { result ≡ is_promoted self.now }
+    {
+        match &self.post {
+            Post::Up(keeper) => keeper.given_up.is_some(),
+            Post::Down(fallen) => fallen.disk.given_up.is_some(),
+            Post::Between => false,
+        }
+    }
+
     /// The server, if it is alive.
     pub fn lent(&self) -> Option<&Server<D>>
         ensures is { option_copied result ≡ lent_of self.now }
         ensures lends { (names : List (List ℕ)) (n : ℕ) (node : Node (List Commit)) → ServerStands D.medium names self.now node n
             → LendsServer (option_copied result) node n }
-        ensures disk { IfSome (option_copied result) (λ it. disk_of self.now ≡ Some (servers.disk_of it)) }
+        ensures disk { IfSome (option_copied result) (λ it. HasDisks it (disk_of self.now)) }
     {
         match &self.post {
             Post::Up(keeper) => Some(&keeper.server),

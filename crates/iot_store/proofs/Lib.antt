@@ -2,9 +2,11 @@ mod BodiesLaws
 mod CommitsLaws
 mod ImagesLaws
 mod LinesLaws
-mod NotingLaws
+pub mod NotingLaws
 pub mod NumbersLaws
+pub mod PartsLaws
 pub mod RecordsLaws
+pub mod RestartLaws
 mod RowsLaws
 pub mod StandingLaws
 pub mod StatesLaws

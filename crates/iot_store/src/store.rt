@@ -1,28 +1,38 @@
 //! The store itself.
 ghost use Rattle.std.specs.List.{AllByRecursion};
-ghost use Rattle.std.specs.Prelude.{◌≡◌, ◌≢◌, ◌↔◌, ◌≤◌, ◌+◌, ℕ, List, length, IfOk, IfErr, OnOk, IsErrOf, IsTrue, MatchResult};
+ghost use Rattle.std.specs.Prelude.{◌≡◌, ◌≢◌, ◌↔◌, ◌≤◌, ◌+◌, ◌^◌, ℕ, List, length, not, option_map, false, true};
+ghost use Rattle.std.specs.Prelude.{IfOk, IfErr, OnOk, IsErrOf, IsTrue, MatchResult};
 ghost use Rattle.iot_access.specs.Access.{FitInTurn};
+ghost use Rattle.iot_backup.specs.Pairs.{AreInStep};
+ghost use Rattle.iot_backup.specs.Parts.{Changes, CountsBoth, If, IsThere};
+ghost use Rattle.iot_backup.specs.Start.{ChangesNothing as ChangesNeither, MayBeBehind};
 ghost use Rattle.iot_views.specs.Rules.{AreLines, IsAccess, IsLabel};
 ghost use Rattle.iot_disk.specs.Disk.{armed_with, Only, SameImages};
-ghost use Rattle.iot_disk.specs.Faults.{CountsJournalFault};
 ghost use Rattle.iot_durable.specs.Causes.{HasCause, SaysDamaged, SaysForeign, TakesBytes};
+ghost use Rattle.iot_durable.specs.Causes.{HasPairCause, SaysFirstDamaged, SaysFirstForeign, TakesBoth};
 ghost use Rattle.iot_durable.specs.Damage.{IsDamagedAt};
-ghost use Rattle.iot_durable.specs.Standing.{EachGoes, EachOpens, IsFresh, StandWith};
+ghost use Rattle.iot_durable.specs.Durable.{images_of, IsGrownBy};
+ghost use Rattle.iot_durable.specs.Standing.{EachGoes, EachIsBroughtUp, EachOpens, IsBroughtUp, IsFresh, StandWith};
 ghost use Rattle.iot_records.specs.Records.{ChangesNothing};
 ghost use Rattle.iot_slots.specs.Cells.{next};
 ghost use Rattle.iot_slots.specs.Decoding.{Foreign, NotStarted, decoded};
+ghost use Rattle.iot_slots.specs.Slots.{disk_of as disk_on, state_on};
+ghost use Rattle.iot_slots.specs.declared.version.Version.TheVariants.{Two};
 ghost use Rattle.iot_stamp.specs.Stamps.{nodes_of};
+ghost use Rattle.iot_store.specs.Bodies.{IsBody};
 ghost use Rattle.iot_store.specs.Images.{HasRecorded, IsImageIn, IsImageOf, IsRefusal, IsUpgraded, TakesImage};
 ghost use Rattle.iot_store.specs.Images.{SaysDamaged as SaysImageDamaged, SaysForeign as SaysImageForeign};
 ghost use Rattle.iot_store.specs.Numbers.{number_in};
 ghost use Rattle.iot_store.specs.Records.{IsRecord};
 ghost use Rattle.iot_store.specs.Rules.{IsCommit, header, rules};
 ghost use Rattle.iot_store.specs.Standing.{EachStands, EachStandsEither, EachStays, StandFor, records_in};
-ghost use Rattle.iot_store.specs.States.{State, CanFollow, after_commit};
+ghost use Rattle.iot_store.specs.Standing.{EachBrings, EachFollows, EachStarts, MayFollow, StandTogether};
+ghost use Rattle.iot_store.specs.States.{State, CanFollow, after_commit, opening};
 
 use crate::commits::Commits;
 use crate::lines::recorded_lines;
 use crate::{Commit, Image, ImageFault};
+use iot_backup::{Twin, TwinFault};
 use iot_disk::{Disk, JournalFault, Pick, StartFault};
 use iot_durable::{Durable, read_image, spell_disk};
 use iot_stamp::Stamped;
@@ -30,17 +40,20 @@ use iot_text::NoMemory;
 use iot_tree::{Access, Duplicate, Label, Labels, Lines, Sequence, Tree, Updates};
 use std::alloc::Global;
 
-/// A server's tree and the labels of its commits, on a disk to which each commit is appended as one record. A checkpoint of the whole comes
-/// before a commit if the records since the last one have grown long.
+/// A server's tree and the labels of its commits, on a disk to which each commit is appended as one record, or on two, the second of which
+/// is the backup of the first. A checkpoint of the whole comes before a commit if the records since the last one have grown long.
 ///
-/// After an `Err` of `commit` only `into_disk` says anything more: start again from the disk.
+/// Calls that concern one disk are told by `second` which: the second one if it is true, else the first.
+///
+/// After an `Err` of `commit` only `into_disks` says anything more: start again from the disks.
 #[derive(Drop)]
 pub struct Store<D: Disk> {
-    pub(crate) durable: Durable<Commits, D>,
+    pub(crate) durable: Durable<Commits, Twin<D>>,
 }
 
 impl<D: Disk> Store<D> {
-    ghost use Rattle.iot_store.specs.Store.{state_of, disk_of, count_of, encoded_on, IsRecorded, IsSynced};
+    ghost use Rattle.iot_store.specs.Store.{state_of, first_of, second_of, part_of, disk_of, count_of, encoded_on};
+    ghost use Rattle.iot_store.specs.Store.{IsAlone, IsRecorded, IsSynced};
 
     /// Starts a store from its disk, which no one else writes. A disk on which none was started becomes that of a server
     /// without a commit, whose tree has only its root. The disk comes back if this gives no store.
@@ -57,6 +70,7 @@ impl<D: Disk> Store<D> {
         ensures only { (state : State) → StandFor (D.medium.reads disk) state
             → IfOk result (λ store. state_of store ≡ state) }
         ensures synced { IfOk result (λ store. IsSynced D.medium store) }
+        ensures alone { IfOk result (λ store. IsAlone store) }
 
         // However this returns, each image stands for the state for which the disk stood, with as many commits; and if it stood for
         // one, its bytes are not refused.
@@ -101,9 +115,101 @@ impl<D: Disk> Store<D> {
             (λ store. D.medium.arms (disk_of store) ≡ D.medium.arms disk)
             (λ refused. D.medium.arms refused.0 ≡ D.medium.arms disk) }
     {
-        match Durable::start(alloc, disk) {
+        match Durable::start_alone(alloc, disk) {
             Ok(durable) => Ok(Store { durable }),
             Err(refused) => Err(refused),
+        }
+    }
+
+    /// Starts a store from its disk and the backup of that, which no one else writes. Either becomes that of a server without a commit if
+    /// none was started on it. A second disk that lacks the last commit gets it. The disks come back if this gives no store. Costs as much
+    /// as both disks are long, and what the commits in the first one's records cost.
+    ///
+    /// # Errors
+    ///
+    /// `Disk` is the refusal of the first disk if it has one, else that of the second, or says that memory ran out or a disk failed.
+    /// `Apart` if neither is refused, and the first disk's count of commits is neither the second's nor one more, modulo 2^64.
+    pub fn start_pair(alloc: Global, first: D, second: D) -> Result<Store<D>, (D, D, TwinFault)>
+        requires first { Only (D.medium.reads first) (D.medium.may_leave first) }
+        requires second { Only (D.medium.reads second) (D.medium.may_leave second) }
+        requires behind { (body : List ℕ) → IsBody Two body opening
+            → MayBeBehind header body (D.medium.reads first) (D.medium.reads second) }
+        requires together { length (D.medium.reads first) ≤ 2 ^ 62 → (state : State) → StandFor (D.medium.reads first) state
+            → AreInStep (decoded header (D.medium.reads first)) (decoded header (D.medium.reads second))
+            → StandTogether (D.medium.reads first) (D.medium.reads second) state }
+        ensures stands { IfOk result (λ store. StandWith rules (D.medium.reads first) (count_of store) (state_of store)) }
+
+        // The first disk stands for no other state.
+        ensures only { (state : State) → StandFor (D.medium.reads first) state
+            → IfOk result (λ store. state_of store ≡ state) }
+        ensures synced { IfOk result (λ store. IsSynced D.medium store) }
+        ensures pair { IfOk result (λ store. IsThere (second_of store)) }
+
+        // However this returns, each image of the first disk stands for the state for which that disk stood, with as many commits. So does
+        // each of the second, or it stands for that disk's own; after Ok for the first one's.
+        ensures images { (state : State) → StandFor (D.medium.reads first) state → MatchResult result
+            (λ store. EachStands (D.medium.may_leave (disk_of store)) (records_in (D.medium.reads first)) state)
+            (λ refused. EachStands (D.medium.may_leave refused.0) (records_in (D.medium.reads first)) state) }
+        ensures second_images { (state other : State) → StandFor (D.medium.reads first) state → StandFor (D.medium.reads second) other
+            → MatchResult result
+            (λ store. If (λ s. EachStands (images_of D.medium s) (records_in (D.medium.reads first)) state) (second_of store))
+            (λ refused. EachBrings (D.medium.may_leave refused.1) (D.medium.reads first) (D.medium.reads second) state other) }
+        ensures second_encodes { MatchResult result
+            (λ store. If (λ s. EachIsBroughtUp rules (images_of D.medium s) (D.medium.reads first) (D.medium.reads second))
+            (second_of store))
+            (λ refused. EachIsBroughtUp rules (D.medium.may_leave refused.1) (D.medium.reads first) (D.medium.reads second)) }
+        ensures second_state { IfOk result (λ store. If (λ s.
+            IsBroughtUp rules (D.medium.reads second) (encoded_on D.medium store) (state_on D.medium s)) (second_of store)) }
+
+        // Of disks whose counts follow each other the next start needs no more. If the first one stands for a state, neither is refused.
+        ensures follows { MayFollow (D.medium.reads first) (D.medium.reads second) → MatchResult result
+            (λ store. If (λ s. EachFollows (D.medium.may_leave (disk_of store)) (images_of D.medium s)) (second_of store))
+            (λ refused. EachFollows (D.medium.may_leave refused.0) (D.medium.may_leave refused.1)) }
+        ensures never { (state : State) → StandFor (D.medium.reads first) state
+            → AreInStep (decoded header (D.medium.reads first)) (decoded header (D.medium.reads second))
+            → IfErr result (λ refused. TakesBoth refused.2) }
+
+        ensures steady { IfOk result (λ store. (D.medium.faults (disk_of store) ≡ D.medium.faults first)
+            × If (λ s. D.medium.faults (disk_on s) ≡ D.medium.faults second) (second_of store)) }
+        ensures cause { IfErr result (λ refused. HasPairCause rules refused.2 (D.medium.reads first) (D.medium.reads second)
+            (D.medium.faults first) (D.medium.faults refused.0) (D.medium.faults second) (D.medium.faults refused.1)) }
+
+        // What something else wrote on the first disk, and what is damaged there, is refused for that, unless memory or a disk fails.
+        ensures foreign { decoded header (D.medium.reads first) ≡ Foreign
+            → MatchResult result (λ _. ⊥) (λ refused. SaysFirstForeign refused.2) }
+        ensures damaged { (at : ℕ) → IsDamagedAt rules (D.medium.reads first) at
+            → MatchResult result (λ _. ⊥) (λ refused. SaysFirstDamaged at refused.2) }
+
+        // A refusal of the bytes or of the counts changes nothing.
+        ensures refused_first { IfErr result (λ refused. ChangesNeither refused.2
+            ((D.medium.reads refused.0 ≡ D.medium.reads first) × SameImages (D.medium.may_leave first) (D.medium.may_leave refused.0))) }
+        ensures refused_second { IfErr result (λ refused. ChangesNeither refused.2
+            ((D.medium.reads refused.1 ≡ D.medium.reads second) × SameImages (D.medium.may_leave second) (D.medium.may_leave refused.1))) }
+
+        // A first disk that is started is only read, whatever the answer. One that was not started is not, or was just started; after Ok it
+        // has these bytes.
+        ensures only_read { decoded header (D.medium.reads first) ≢ NotStarted → MatchResult result
+            (λ store. D.medium.reads (disk_of store) ≡ D.medium.reads first)
+            (λ refused. D.medium.reads refused.0 ≡ D.medium.reads first) }
+        ensures only_read_images { decoded header (D.medium.reads first) ≢ NotStarted → MatchResult result
+            (λ store. SameImages (D.medium.may_leave first) (D.medium.may_leave (disk_of store)))
+            (λ refused. SameImages (D.medium.may_leave first) (D.medium.may_leave refused.0)) }
+        ensures opens { decoded header (D.medium.reads first) ≡ NotStarted → MatchResult result
+            (λ store. EachOpens rules (D.medium.may_leave (disk_of store)))
+            (λ refused. EachOpens rules (D.medium.may_leave refused.0)) }
+        ensures fresh { decoded header (D.medium.reads first) ≡ NotStarted → IfOk result (λ store.
+            IsFresh rules (D.medium.reads first) (D.medium.reads (disk_of store))) }
+
+        ensures first_arms { MatchResult result
+            (λ store. D.medium.arms (disk_of store) ≡ D.medium.arms first)
+            (λ refused. D.medium.arms refused.0 ≡ D.medium.arms first) }
+        ensures second_arms { MatchResult result
+            (λ store. If (λ s. D.medium.arms (disk_on s) ≡ D.medium.arms second) (second_of store))
+            (λ refused. D.medium.arms refused.1 ≡ D.medium.arms second) }
+    {
+        match Durable::start_pair(alloc, first, second) {
+            Ok(durable) => Ok(Store { durable }),
+            Err(back) => Err(back),
         }
     }
 
@@ -173,20 +279,23 @@ impl<D: Disk> Store<D> {
         requires { IsSynced D.medium self.old }
         ensures fit { IfOk result (λ fit. IsTrue fit ↔ FitInTurn (state_of self.old).tree updates.now) }
         ensures same { OnOk result (self.new ≡ self.old) }
-        ensures disk { disk_of self.new ≡ disk_of self.old }
+        ensures first { first_of self.new ≡ first_of self.old }
+        ensures second { second_of self.new ≡ second_of self.old }
     {
         self.durable
             .state_mut()
             .fit_in_turn(alloc, updates.as_slice())
     }
 
-    /// Adds a commit, and gives its number: its record is on the disk when this answers Ok. Costs as much as the record is
-    /// long, and a search of the tree for each update; with a checkpoint as much as the whole state is long.
+    /// Adds a commit, and gives its number: its record is on both disks when this answers Ok, first on the first. The checkpoints that are
+    /// due come before. Costs as much as the record is long, and a search of the tree for each update; with a checkpoint as much as the
+    /// whole state is long.
     ///
     /// # Errors
     ///
-    /// `Stopped` if the disk failed in this call: each of its images then stands for the commits before or for those with
-    /// the new one. `NoMemory`: each stands for the commits before.
+    /// `Stopped` if a disk failed in this call: each image of the first disk then stands for the commits before or for those with the new
+    /// one, and so does each of the second, but none has the new one if the first disk lacks it. `NoMemory`: each image of the second disk
+    /// stands for the commits before, and so does each of a disk that is alone.
     pub fn commit(
         &mut self,
         alloc: Global,
@@ -200,38 +309,47 @@ impl<D: Disk> Store<D> {
         requires lines { AreLines lines.now }
         requires follows { CanFollow (state_of self.old) label access.now }
 
-        // However this returns, each image stands for the commits before or for those with the new one. Each encodes what was there, or a
-        // checkpoint of the state before alone; or such with the record of this commit.
+        // However this returns, each image of the first disk stands for the commits before or for those with the new one. Each encodes
+        // what was there, or a checkpoint of the state before alone; or such with the record of this commit.
         ensures images { EachStandsEither (D.medium.may_leave (disk_of self.new)) (count_of self.old)
             (state_of self.old) (after_commit (state_of self.old) label access.now) }
         ensures encodes { EachGoes rules (D.medium.may_leave (disk_of self.new)) (encoded_on D.medium self.old) (state_of self.old)
             (record { label = label; access = access.now; lines = lines.now }) }
-        ensures no_memory { IsErrOf result JournalFault.NoMemory → EachStays (D.medium.may_leave (disk_of self.new))
+        ensures no_memory { IsErrOf result JournalFault.NoMemory → IsAlone self.old → EachStays (D.medium.may_leave (disk_of self.new))
             (count_of self.old) (encoded_on D.medium self.old) (state_of self.old) }
         ensures committed { OnOk result (EachStands (D.medium.may_leave (disk_of self.new)) (next (count_of self.old))
             (after_commit (state_of self.old) label access.now)) }
 
+        // So does each image of the second one; without memory each stands for the commits before.
+        ensures second_images { Changes (λ old new. EachStandsEither (images_of D.medium new) (count_of self.old)
+            (state_of self.old) (after_commit (state_of self.old) label access.now)) (second_of self.old) (second_of self.new) }
+        ensures second_encodes { Changes (λ old new. EachGoes rules (images_of D.medium new) (state_on D.medium old) (state_of self.old)
+            (record { label = label; access = access.now; lines = lines.now })) (second_of self.old) (second_of self.new) }
+        ensures second_memory { IsErrOf result JournalFault.NoMemory → If (λ s. EachStands (images_of D.medium s)
+            (count_of self.old) (state_of self.old)) (second_of self.new) }
+        ensures second_committed { OnOk result (If (λ s. EachStands (images_of D.medium s) (next (count_of self.old))
+            (after_commit (state_of self.old) label access.now)) (second_of self.new)) }
+
+        // However this returns, a start from any two images has what it needs.
+        ensures restarts { If (λ s. EachStarts (D.medium.may_leave (disk_of self.new)) (images_of D.medium s)) (second_of self.new) }
+
         ensures state { OnOk result (state_of self.new ≡ after_commit (state_of self.old) label access.now) }
         ensures recorded { OnOk result (IsRecorded D.medium self.old self.new
             (record { label = label; access = access.now; lines = lines.now })) }
+        ensures second_recorded { OnOk result (Changes (λ old new. IsGrownBy D.medium rules (state_of self.old)
+            (record { label = label; access = access.now; lines = lines.now }) old new) (second_of self.old) (second_of self.new)) }
         ensures count { OnOk result (count_of self.new ≡ next (count_of self.old)) }
         ensures synced { OnOk result (IsSynced D.medium self.new) }
         ensures number { IfOk result (λ number. number ≡ length (state_of self.old).labels + 1) }
 
-        ensures faults { CountsJournalFault result
-            (D.medium.faults (disk_of self.old)) (D.medium.faults (disk_of self.new)) }
+        ensures faults { CountsBoth D.medium result
+            (first_of self.old) (first_of self.new) (second_of self.old) (second_of self.new) }
         ensures arms { D.medium.arms (disk_of self.new) ≡ D.medium.arms (disk_of self.old) }
+        ensures second_arms { Changes (λ old new. D.medium.arms (disk_on new) ≡ D.medium.arms (disk_on old))
+            (second_of self.old) (second_of self.new) }
     {
-        let access = copied(alloc, access)?;
-        let lines = lines.copy(alloc)?;
-        self.durable.note(
-            alloc,
-            Commit {
-                label,
-                access,
-                lines,
-            },
-        )?;
+        let commit = commit_copied(alloc, label, access, lines)?;
+        self.durable.note(alloc, commit)?;
         Ok(self.number())
     }
 
@@ -251,26 +369,44 @@ impl<D: Disk> Store<D> {
         requires recorded { IsRecord body.now commit.label commit.access commit.lines }
         requires follows { CanFollow (state_of self.old) commit.label commit.access }
 
-        // However this returns, each image stands for the commits before or for those with the new one. Each encodes what was there, or a
-        // checkpoint of the state before alone; or such with the record of this commit.
+        // However this returns, each image of the first disk stands for the commits before or for those with the new one. Each encodes
+        // what was there, or a checkpoint of the state before alone; or such with the record of this commit.
         ensures images { EachStandsEither (D.medium.may_leave (disk_of self.new)) (count_of self.old)
             (state_of self.old) (after_commit (state_of self.old) commit.label commit.access) }
         ensures encodes { EachGoes rules (D.medium.may_leave (disk_of self.new)) (encoded_on D.medium self.old) (state_of self.old)
             commit }
-        ensures no_memory { IsErrOf result JournalFault.NoMemory → EachStays (D.medium.may_leave (disk_of self.new))
+        ensures no_memory { IsErrOf result JournalFault.NoMemory → IsAlone self.old → EachStays (D.medium.may_leave (disk_of self.new))
             (count_of self.old) (encoded_on D.medium self.old) (state_of self.old) }
         ensures committed { OnOk result (EachStands (D.medium.may_leave (disk_of self.new)) (next (count_of self.old))
             (after_commit (state_of self.old) commit.label commit.access)) }
 
+        // So does each image of the second one; without memory each stands for the commits before.
+        ensures second_images { Changes (λ old new. EachStandsEither (images_of D.medium new) (count_of self.old)
+            (state_of self.old) (after_commit (state_of self.old) commit.label commit.access)) (second_of self.old) (second_of self.new) }
+        ensures second_encodes { Changes (λ old new. EachGoes rules (images_of D.medium new) (state_on D.medium old) (state_of self.old)
+            commit) (second_of self.old) (second_of self.new) }
+        ensures second_memory { IsErrOf result JournalFault.NoMemory → If (λ s. EachStands (images_of D.medium s)
+            (count_of self.old) (state_of self.old)) (second_of self.new) }
+        ensures second_committed { OnOk result (If (λ s. EachStands (images_of D.medium s) (next (count_of self.old))
+            (after_commit (state_of self.old) commit.label commit.access)) (second_of self.new)) }
+
+        // However this returns, a start from any two images has what it needs.
+        ensures restarts { If (λ s. EachStarts (D.medium.may_leave (disk_of self.new)) (images_of D.medium s)) (second_of self.new) }
+
         ensures state { OnOk result (state_of self.new ≡ after_commit (state_of self.old) commit.label commit.access) }
-        ensures recorded { OnOk result (IsRecorded D.medium self.old self.new commit) }
+        ensures recorded { OnOk result (IsRecorded D.medium self.old self.new
+            commit) }
+        ensures second_recorded { OnOk result (Changes (λ old new. IsGrownBy D.medium rules (state_of self.old)
+            commit old new) (second_of self.old) (second_of self.new)) }
         ensures count { OnOk result (count_of self.new ≡ next (count_of self.old)) }
         ensures synced { OnOk result (IsSynced D.medium self.new) }
         ensures number { IfOk result (λ number. number ≡ length (state_of self.old).labels + 1) }
 
-        ensures faults { CountsJournalFault result
-            (D.medium.faults (disk_of self.old)) (D.medium.faults (disk_of self.new)) }
+        ensures faults { CountsBoth D.medium result
+            (first_of self.old) (first_of self.new) (second_of self.old) (second_of self.new) }
         ensures arms { D.medium.arms (disk_of self.new) ≡ D.medium.arms (disk_of self.old) }
+        ensures second_arms { Changes (λ old new. D.medium.arms (disk_on new) ≡ D.medium.arms (disk_on old))
+            (second_of self.old) (second_of self.new) }
     {
         self.durable.note_spelled(alloc, commit, body)?;
         Ok(self.number())
@@ -313,33 +449,62 @@ impl<D: Disk> Store<D> {
         self.durable.state().number_of(client, tid)
     }
 
-    /// The number of commits that were ever made on this disk, modulo 2^64.
+    /// The number of commits that were ever made on its disks, modulo 2^64.
     pub fn count(&self) -> u64
         ensures { result ≡ count_of self.now }
     {
         self.durable.count()
     }
 
-    /// Makes a later device call of the disk fail, and does nothing else.
-    pub fn arm(&mut self, calls: u64, pick: Pick)
-        ensures arms { D.medium.arms (disk_of self.new) ≡ armed_with (D.medium.arms (disk_of self.old)) calls pick }
-        ensures reads { D.medium.reads (disk_of self.new) ≡ D.medium.reads (disk_of self.old) }
-        ensures images { SameImages (D.medium.may_leave (disk_of self.old)) (D.medium.may_leave (disk_of self.new)) }
-        ensures faults { D.medium.faults (disk_of self.new) ≡ D.medium.faults (disk_of self.old) }
+    /// Makes a later device call of a disk fail, and does nothing else.
+    pub fn arm(&mut self, second: bool, calls: u64, pick: Pick)
+        requires { IsThere (part_of second self.old) }
+        ensures arms { Changes (λ old new. D.medium.arms (disk_on new) ≡ armed_with (D.medium.arms (disk_on old)) calls pick)
+            (part_of second self.old) (part_of second self.new) }
+        ensures reads { Changes (λ old new. D.medium.reads (disk_on new) ≡ D.medium.reads (disk_on old))
+            (part_of second self.old) (part_of second self.new) }
+        ensures images { Changes (λ old new. SameImages (images_of D.medium old) (images_of D.medium new))
+            (part_of second self.old) (part_of second self.new) }
+        ensures faults { Changes (λ old new. D.medium.faults (disk_on new) ≡ D.medium.faults (disk_on old))
+            (part_of second self.old) (part_of second self.new) }
+        ensures other { part_of (not second) self.new ≡ part_of (not second) self.old }
         ensures state { state_of self.new ≡ state_of self.old }
         ensures count { count_of self.new ≡ count_of self.old }
         ensures synced { IsSynced D.medium self.old → IsSynced D.medium self.new }
     {
-        self.durable.arm(calls, pick);
+        self.durable.arm(second, calls, pick);
     }
 
-    /// Gives the disk back. Unless `commit` failed, each image of it stands for the commits.
-    pub fn into_disk(self) -> D
-        ensures disk { result ≡ disk_of self }
-        ensures stands { IsSynced D.medium self → EachStands (D.medium.may_leave result) (count_of self) (state_of self) }
+    /// Gives the disks back: of a disk that is alone there is no second. Unless `commit` failed, each image of both stands for the commits.
+    pub fn into_disks(self) -> (D, Option<D>)
+        ensures first { result.0 ≡ disk_of self }
+        ensures second { result.1 ≡ option_map disk_on (second_of self) }
+        ensures stands { IsSynced D.medium self → EachStands (D.medium.may_leave result.0) (count_of self) (state_of self) }
+        ensures second_stands { IsSynced D.medium self → If (λ disk. EachStands (D.medium.may_leave disk) (count_of self)
+            (state_of self)) result.1 }
+        ensures restarts { IsSynced D.medium self → If (λ disk. EachStarts (D.medium.may_leave result.0) (D.medium.may_leave disk))
+            result.1 }
     {
-        self.durable.into_disk()
+        self.durable.into_disks()
     }
+}
+
+/// A commit of these parts, with memory of its own.
+fn commit_copied(
+    alloc: Global,
+    label: Label,
+    access: &Access,
+    lines: &Lines,
+) -> Result<Commit, NoMemory>
+    ensures { IfOk result (λ commit. commit ≡ record { label = label; access = access.now; lines = lines.now }) }
+{
+    let access = copied(alloc, access)?;
+    let lines = lines.copy(alloc)?;
+    Ok(Commit {
+        label,
+        access,
+        lines,
+    })
 }
 
 /// An equal access in memory of its own.

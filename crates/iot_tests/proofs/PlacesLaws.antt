@@ -1,9 +1,9 @@
--- A step and an end leave a client at its place.
-use Rattle.std.specs.Prelude.{◌≡◌, ◌≤◌, Bool, Option, Some, None, IsSomeAnd, Result, Ok, Err, OnOk}
-use Rattle.std.proofs.Common.{subst, sym}
+-- A step, an end and a cut leave a client at its place.
+use Rattle.std.specs.Prelude.{◌≡◌, ◌≤◌, ℕ, Bool, List, [], ◌∷◌, Option, Some, None, IsSomeAnd, Result, Ok, Err, OnOk}
+use Rattle.std.proofs.Common.{ap, subst, sym}
 use Rattle.iot_lang.specs.Code.{Code}
 use Rattle.iot_kept.specs.States.{Transaction}
-use Rattle.iot_client.specs.Calls.{StepIs, EndIs, IsSoOf}
+use Rattle.iot_client.specs.Calls.{CutsIfAny, StepIs, EndIs, IsSoOf}
 use Rattle.iot_client.specs.Ties.{Live, place_of}
 use Rattle.iot_client.specs.declared.client.Client.{Client}
 use Rattle.iot_client.specs.declared.steps.Step.{Step}
@@ -43,6 +43,11 @@ module _ {D : Type 0} (old new : Client D) where
   pub end_stays : (ended : Ended) (it : Option Transaction) (live : Option Live)
       → IsSoOf (λ it first code. EndIs old it first code ended new) it live → place_of new ≡ place_of old
   end_stays ended = one (λ it first code. EndIs old it first code ended new) (end_is ended)
+
+  -- whatever was cut
+  pub cut_stays : (running : List Transaction) (told : Option (ℕ × ℕ)) → CutsIfAny running told old new → place_of new ≡ place_of old
+  cut_stays [] told is = ap place_of is.1
+  cut_stays (it ∷ running) told is = is.notes.place
 
   pub at_most : place_of new ≡ place_of old → place_of old ≤ 7 → place_of new ≤ 7
   at_most same few = subst (λ place. place ≤ 7) (sym same) few

@@ -208,14 +208,14 @@ fn a_client_commits_at_a_server(rt: HostRuntime) -> Result<(), Fail> {
     submit(alloc, &client, &mut line)?;
 
     // The server's disk fails in the commit, at the write that makes the record count. The server starts again, and is asked again.
-    server.arm(3, Pick::New);
+    server.arm(false, 3, Pick::New);
     let stopped = serve(alloc, &mut server, &mut line);
     assert!(rt; matches!(stopped, Err(ServerFault::Stopped)));
-    let mut server = server_on(alloc, server.into_disk())?;
+    let mut server = server_on(alloc, server.into_disks().0)?;
     assert_eq!(rt; server.store().number(), 1);
     submit(alloc, &client, &mut line)?;
     serve(alloc, &mut server, &mut line)?;
     assert_eq!(rt; take_verdict(alloc, &mut client, &mut line)?, Some(1));
-    assert!(rt; server.into_disk().syncs > 0);
+    assert!(rt; server.into_disks().0.syncs > 0);
     Ok(())
 }

@@ -32,6 +32,8 @@ mod stamps;
 #[cfg(test)]
 mod trees;
 #[cfg(test)]
+mod twins;
+#[cfg(test)]
 mod versions;
 #[cfg(test)]
 mod views;

@@ -1,7 +1,10 @@
 //! Requests and replies, as they were written by hand.
 ghost use Rattle.std.specs.Prelude.{IfOk, OnOk};
-ghost use Rattle.iot_server.specs.Servers.{IsSynced};
+ghost use Rattle.iot_backup.specs.Parts.{IsThere};
+ghost use Rattle.iot_server.specs.Servers.{IsSynced, second_of};
+ghost use Rattle.iot_store.specs.Standing.{EachStarts};
 
+use iot_backup::TwinFault;
 use iot_disk::{Disk, MemDisk, Pick};
 use iot_server::{Server, ServerFault, StartFault, Traffic};
 use std::alloc::Global;
@@ -58,6 +61,24 @@ pub(crate) fn started<D: Disk + Drop>(alloc: Global, mut disk: D) -> Result<Serv
     }
 }
 
+/// A server over two disks that is started after a restart of both.
+fn started_on_both<D: Disk + Drop>(
+    alloc: Global,
+    mut first: D,
+    mut second: D,
+) -> Result<Server<D>, TwinFault>
+    requires { EachStarts (D.medium.may_leave first) (D.medium.may_leave second) }
+    ensures synced { IfOk result (λ server. IsSynced D.medium server) }
+    ensures pair { IfOk result (λ server. IsThere (second_of server)) }
+{
+    first.restart();
+    second.restart();
+    match Server::start_pair(alloc, first, second) {
+        Ok(server) => Ok(server),
+        Err((_, _, fault)) => Err(fault),
+    }
+}
+
 /// The server answers the request with this reply.
 fn answers<D: Disk>(
     rt: &impl Abort,
@@ -106,7 +127,7 @@ fn a_restart_counts_requests_anew(rt: HostRuntime) -> Result<(), Fail> {
     let alloc = rt.alloc();
     let mut server = started(alloc, MemDisk::new(alloc))?;
     answers(&rt, alloc, &mut server, COMMIT, COMMITTED)?;
-    let server = started(alloc, server.into_disk())?;
+    let server = started(alloc, server.into_disks().0)?;
     assert_eq!(rt; server.store().number(), 1);
     assert_eq!(rt; server.traffic().requests, 0);
     Ok(())
@@ -115,11 +136,11 @@ fn a_restart_counts_requests_anew(rt: HostRuntime) -> Result<(), Fail> {
 /// The server's disk fails at this call of the commit. The server starts again, and is asked again.
 fn stops_in_a_commit(rt: &impl Abort, alloc: Global, calls: u64, pick: Pick) -> Result<(), Fail> {
     let mut server = started(alloc, MemDisk::new(alloc))?;
-    server.arm(calls, pick);
+    server.arm(false, calls, pick);
     let stopped = server.handle(alloc, COMMIT);
     assert!(rt; matches!(stopped, Err(ServerFault::Stopped)));
     let kept = calls > 2 && pick != Pick::Old;
-    let mut server = started(alloc, server.into_disk())?;
+    let mut server = started(alloc, server.into_disks().0)?;
     assert_eq!(rt; server.store().number(), u64::from(kept), "call {calls}");
     let reply = if kept { ALREADY } else { COMMITTED };
     answers(rt, alloc, &mut server, COMMIT, reply)
@@ -131,6 +152,47 @@ fn a_commit_is_kept_or_lost(rt: HostRuntime) -> Result<(), Fail> {
     for calls in 1..5 {
         for pick in [Pick::Old, Pick::New, Pick::Fill(165)] {
             stops_in_a_commit(&rt, alloc, calls, pick)?;
+        }
+    }
+    Ok(())
+}
+
+/// A disk of the server fails as it answers the request. The server starts again, from both disks.
+fn fails_in<D: Disk + Drop>(
+    alloc: Global,
+    mut server: Server<D>,
+    request: &[u8],
+) -> Result<Server<D>, Fail>
+    requires { IsSynced D.medium server }
+    ensures { IfOk result (λ it. IsSynced D.medium it) }
+{
+    if server.handle(alloc, request).is_ok() {
+        return Err(Fail::new("no disk failed"));
+    }
+    let (first, second) = server.into_disks();
+    let Some(second) = second else {
+        return Err(Fail::new("there is no backup"));
+    };
+    Ok(started_on_both(alloc, first, second)?)
+}
+
+/// The backup fails at this call of the commit. The first disk has the record then, and a start from both disks brings the backup up. So
+/// the server goes on from the backup alone.
+fn stops_on_the_backup(rt: &impl Abort, alloc: Global, calls: u64, pick: Pick) -> Result<(), Fail> {
+    let mut server = started_on_both(alloc, MemDisk::new(alloc), MemDisk::new(alloc))?;
+    server.arm(true, calls, pick);
+    let server = fails_in(alloc, server, COMMIT)?;
+    assert_eq!(rt; server.store().number(), 1);
+    let (_first, backup) = server.into_disks();
+    let mut server = started(alloc, backup.ok_or("there is no backup")?)?;
+    answers(rt, alloc, &mut server, COMMIT, ALREADY)
+}
+
+#[test]
+fn a_commit_goes_on_from_the_backup(rt: HostRuntime) -> Result<(), Fail> {
+    for calls in 1..5 {
+        for pick in [Pick::Old, Pick::New, Pick::Fill(165)] {
+            stops_on_the_backup(&rt, rt.alloc(), calls, pick)?;
         }
     }
     Ok(())

@@ -78,7 +78,7 @@ fn an_old_disk_stands_for_a_state_and_is_only_read(rt: HostRuntime) -> Result<()
         server.store().tree().content(&path),
         Some(b"hi".as_slice())
     );
-    assert_eq!(rt; server.into_disk().bytes(), OLD);
+    assert_eq!(rt; server.into_disks().0.bytes(), OLD);
     Ok(())
 }
 
@@ -90,12 +90,12 @@ fn stops_in_the_first_commit(
     pick: Pick,
 ) -> Result<(), Fail> {
     let mut server = started(alloc, MemDisk::of(alloc, OLD.to_vec(alloc)?)?)?;
-    server.arm(calls, pick);
+    server.arm(false, calls, pick);
     let stopped = server.handle(alloc, THIRD);
     assert!(rt; matches!(stopped, Err(ServerFault::Stopped)));
     // Seven calls are of the checkpoint, and two more come before the gate of the record.
     let kept = calls > 9 && pick != Pick::Old;
-    let mut server = started(alloc, server.into_disk())?;
+    let mut server = started(alloc, server.into_disks().0)?;
     assert_eq!(rt;
         server.store().number(),
         2 + u64::from(kept),
@@ -122,7 +122,7 @@ fn after_it_the_disk_is_of_version_2(rt: HostRuntime) -> Result<(), Fail> {
     let alloc = rt.alloc();
     let mut server = started(alloc, MemDisk::of(alloc, OLD.to_vec(alloc)?)?)?;
     assert_eq!(rt; server.handle(alloc, THIRD)?.as_slice(), COMMITTED);
-    let disk = server.into_disk();
+    let disk = server.into_disks().0;
     // Cell 1 is in force, and names the end of the old disk.
     assert_eq!(rt;
         &disk.bytes()[26..43],

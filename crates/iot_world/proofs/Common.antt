@@ -11,8 +11,8 @@ pub use Rattle.iot_node.proofs.StepsLaws.{asks, bind, says, says_this}
 pub use Rattle.iot_server_node.proofs.BeginningLaws.{commits_kept, commits_same, image_goes_on, own_goes_on, stands_go_on}
 pub use Rattle.iot_server_node.proofs.ServersLaws.{has_disk, lasts, more_names, up_is}
 pub use Rattle.iot_store.specs.Store.{state_of}
-pub use Rattle.iot_world.specs.Disks.{AreFresh, FirstBegins, IsUnarmed}
-pub use Rattle.iot_world.specs.Holding.{DisksHold, Holds, HoldsList, IsKept, IsListed, KeepsClient, counts_in, running_kept, state_kept}
+pub use Rattle.iot_world.specs.Disks.{AreFresh, IsUnarmed}
+pub use Rattle.iot_world.specs.Holding.{DisksHold, Holds, HoldsList, IsKept, IsListed, KeepsClient, running_kept, state_kept}
 pub use Rattle.iot_world.specs.World.{AddsScript, AreLast, ArePlaced, AreUnarmed, ClientIs, DeclaredOn, DeclaresClient, Each, EventSteps}
 pub use Rattle.iot_world.specs.World.{GivesBack, IsReady, IsWorldOfSome, KeepsDisks, KeepsNode, LaptopHasDisk, LendsClient, LendsServer}
 pub use Rattle.iot_world.specs.World.{MakesStep, Opens, SameArms, StandsFor, StandsForSome, Starts, UnlessArmed, client_count, disks_of}

@@ -12,11 +12,18 @@ use Rattle.iot_world.specs.Prelude.{Declares, names_in, client_of, add_client, d
 use Rattle.iot_world.specs.Prelude.{disk_in, script_named, Global}
 use Rattle.iot_world.proofs.Common.{◌≡◌, ℕ, ◌<◌, Bool, List, [], ◌∷◌, length, map, Some, refl, sym, ap, subst, ◌∙◌, arith, suc, ◌+◌, true}
 use Rattle.iot_world.proofs.Common.{false, ◌++◌, drop, append_assoc, get_or-append_seam, set-append_seam, append-nil, length-append}
-use Rattle.iot_world.proofs.Common.{map-append, sound_opening, AreFresh, ArePlaced, AreUnarmed, GivesBack, Opens, with_first, with_clients}
+use Rattle.iot_world.proofs.Common.{map-append, sound_opening, AreFresh, ArePlaced, AreUnarmed, GivesBack, Opens, with_clients}
 use Rattle.iot_world.proofs.Common.{StandsFor, MakesStep, KeepsDisks, SameArms, DeclaresClient, Starts, AddsScript, LaptopHasDisk}
-use Rattle.iot_world.proofs.Common.{client_count, script_names, said_of, more_names, commits_same, all_push}
+use Rattle.iot_world.proofs.Common.{client_count, script_names, said_of, more_names, all_push}
 use Rattle.iot_exchange.specs.Scripts as exchange
-use Rattle.iot_world.proofs.DisksLaws.{kept_follows, unarmed_same, pushed_with, here_follows, same_clients, clients_follow}
+use Rattle.iot_world.proofs.BeginsLaws.{begins_there}
+use Rattle.iot_world.proofs.DisksLaws.{kept_follows, unarmed_same, pushed_with, same_clients, clients_follow, server_same}
+use Rattle.iot_world.proofs.PlacesLaws.{ServerPlaced, ends_length, has_places, pairs_follow, server_list, server_placed}
+use Rattle.iot_world.specs.Disks.{AreTwoUnarmed, ServerBegins, with_ends}
+use Rattle.iot_world.specs.World.{with_server}
+use Rattle.iot_world.specs.Prelude.{IsBeside, KeepsBeside, last_of, on_both, paired, placed}
+use Rattle.iot_machine.specs.Nodes.{no_counts}
+use Rattle.iot_world.proofs.Common.{Each, IsUnarmed, StandsForSome, ◌≤◌, length-map, slice_index_or, take}
 use Rattle.iot_world.proofs.WorldsLaws.{then_silent, opens_keeps, gets_then}
 use Rattle.iot_event.specs.declared.event.Event.TheVariants as events
 use Rattle.iot_machine.specs.Machine as machine
@@ -24,22 +31,82 @@ use Rattle.iot_laptop.specs.Laptops.{FallenStands, fallen, unopened_laptop}
 use Rattle.iot_world.proofs.ListLaws.{each_push, each_place_push}
 use Rattle.iot_world.proofs.ScriptsLaws.{clients_more, apart_more, undeclared}
 
+-- ---- the counts of ten disks
+
+take_front : {A : Type 0} (xs ys : List A) → take (length xs) (xs ++ ys) ≡ xs
+take_front [] ys = refl
+take_front (x ∷ xs) ys = ap (λ (zs : List _). x ∷ zs) (take_front xs ys)
+
+-- the machine before anything has started, of a server whose two disks have counted this, beside eight others
+abbrev pub at_first : (first last : Counts) → List Counts → Machine
+at_first first last others = record {
+  server = unopened [] (paired first last);
+  requests = 0;
+  promoted = false;
+  beside = last.arms;
+  clients = [];
+  scripts = [];
+  spare = others;
+}
+
+before_is : (first last : Counts) (others : List Counts) → length others ≡ 8
+    → handed (with_ends first last others) ≡ at_first first last others
+before_is first last others eight =
+    let nine : 9 ≡ suc (length others) = omega (arith, eight) in
+    let tenth : last_of (with_ends first last others) ≡ last =
+    ap (λ (n : ℕ). slice_index_or (with_ends first last others) n no_counts) nine
+    ∙ get_or-append_seam others last [] no_counts in
+    let spare : take 8 (others ++ last ∷ []) ≡ others =
+    ap (λ (n : ℕ). take n (others ++ last ∷ [])) (sym eight) ∙ take_front others (last ∷ []) in
+    λ i. at_first first (tenth i) (spare i)
+
 -- ---- a new world
 
-module _ {D : Type 0} (medium : Medium D) (disks : List D) (first : D) (rest : List D) (split : disks ≡ first ∷ rest)
+all_front : {A : Type 0} (P : A → Type 0) (xs ys : List A) → AllByRecursion P (xs ++ ys) → AllByRecursion P xs
+all_front P [] ys all = tt
+all_front P (x ∷ xs) ys all = (all.0, all_front P xs ys all.1)
+
+all_last : {A : Type 0} (P : A → Type 0) (xs : List A) (y : A) → AllByRecursion P (xs ++ y ∷ []) → P y
+all_last P [] y all = all.0
+all_last P (x ∷ xs) y all = all_last P xs y all.1
+
+module _ {D : Type 0} (medium : Medium D) (disks : List D) (first last : D) (rest : List D) (split : disks ≡ with_ends first last rest)
     (fresh : AreFresh medium disks) where
+  all_fresh : AllByRecursion (IsEmpty medium) (with_ends first last rest)
+  all_fresh = subst (AllByRecursion (IsEmpty medium)) split fresh.each
+
+  pub first_fresh : IsEmpty medium first
+  first_fresh = all_fresh.0
+
+  pub last_fresh : IsEmpty medium last
+  last_fresh = all_last (IsEmpty medium) rest last all_fresh.1
+
+  eight_left : length rest ≡ 8
+  eight_left = omega (arith, ap length split, ends_length first last rest, fresh.ten)
+
+  -- what they count
+  abbrev counts : Counts × Counts
+  counts = (counts_on medium first, counts_on medium last)
+
+  pub handed_are : handed (map (counts_on medium) disks) ≡ at_first counts.0 counts.1 (map (counts_on medium) rest)
+  handed_are =
+      ap (λ (ds : List D). handed (map (counts_on medium) ds)) split
+      ∙ ap (λ (cs : List Counts). handed (counts.0 ∷ cs)) (map-append (counts_on medium) rest (last ∷ []))
+      ∙ before_is counts.0 counts.1 (map (counts_on medium) rest) (length-map rest (counts_on medium) ∙ eight_left)
+
   -- a world of its server alone
   pub opens : (world : World D) (was : ServerNode D) (x y : List ℕ) (on : Bool)
-      → ServerStands medium [] was (unopened [] (counts_on medium first)) 0
+      → ServerStands medium [] was (unopened [] (paired counts.0 counts.1)) 0
+      → IsBeside medium world.server false (medium.arms last)
       → StepsTo (HavingAnswered medium [] 0) (HavingAnswered medium [] 0) (OpensNode server_name) was world.server x y on
-      → IsSome (disk_of world.server) → world.clients.items ≡ [] → world.scripts.items ≡ [] → world.spare.items ≡ rest
-      → vec_len world.spare < vec_capacity world.spare → Opens medium disks x y world
-  opens world was x y on stands one some clients scripts spare room =
-      let counts : List Counts = map (counts_on medium) disks in
-      let s = one.step (unopened [] (counts_on medium first)) stands in
-      let m : Machine = record (handed (map (counts_on medium) (first ∷ rest))) { server = s.1 } in
-      let step : Opening (handed counts) s.0 tt m =
-      rw split (then_silent m on (record { inner = s.1; step = s.3; is = refl }) (refl, refl)) in
+      → world.clients.items ≡ [] → world.scripts.items ≡ [] → world.spare.items ≡ rest
+      → vec_len world.spare + 2 ≤ vec_capacity world.spare → Opens medium disks x y world
+  opens world was x y on stands beside one clients scripts spare room =
+      let s = one.step (unopened [] (paired counts.0 counts.1)) stands in
+      let m : Machine = record (at_first counts.0 counts.1 (map (counts_on medium) rest)) { server = s.1 } in
+      let step : Opening (handed (map (counts_on medium) disks)) s.0 tt m =
+      subst (λ (start : Machine). Opening start s.0 tt m) (sym handed_are)
+      (then_silent m on (record { inner = s.1; step = s.3; is = refl }) (refl, refl)) in
       record {
         machine = m;
         text = s.0;
@@ -48,54 +115,81 @@ module _ {D : Type 0} (medium : Medium D) (disks : List D) (first : D) (rest : L
         stands = record {
           stands = record {
             server = s.4;
+            beside = beside;
             clients_ = rw clients tt;
             follow = rw clients tt;
             scripts = ap (λ (ss : List DeclaredScript). exchange.scripts_of ss) (sym scripts);
             apart = λ place script at. absurd cc;
             placed = subst ArePlaced (sym clients) (λ place laptop at. absurd cc);
-            spare = rw spare (rw split at fresh.each).1;
+            spare = rw spare (all_front (IsEmpty medium) rest (last ∷ []) all_fresh.1);
             counts = ap (map (counts_on medium)) spare;
-            eight = omega (arith, ap length clients, ap length spare, ap length split, fresh.nine);
+            eight = omega (arith, ap length clients, ap length spare, eight_left);
           };
-          sound = sound_opening counts m s.0 step;
+          sound = sound_opening (map (counts_on medium) disks) m s.0 step;
         };
         no_clients = ap length clients;
         no_scripts = ap (map (λ (s : DeclaredScript). s.name)) scripts;
         has = record {
-          server = some;
+          server = has_places medium world.server false (medium.arms last)
+              (server_placed medium world.server false (medium.arms last) beside);
           clients = rw clients tt;
           room = omega (arith, ap length clients, room);
         };
         first = first;
-        were = split ∙ ap (λ (ds : List D). first ∷ ds) (sym spare);
+        last = last;
+        were = split ∙ ap (λ (ds : List D). with_ends first last ds) (sym spare);
       }
 
   -- in which no disk was armed
-  module _ (was now : ServerNode D) (has : disk_of was ≡ Some first) (keeps : KeepsDisk medium (disk_of was) (disk_of now)) where
-    unarmed_with : AreUnarmed medium (first ∷ rest) (with_first (disk_of now) rest)
-    unarmed_with = rw has at (kept_follows medium (disk_of was) (disk_of now) keeps rest rest (unarmed_same medium rest))
+  module _ (was now : ServerNode D) (has : disk_of was ≡ Some (placed false first last))
+      (beside : IsBeside medium was false (medium.arms last)) (kept : KeepsBeside medium was now)
+      (keeps : KeepsDisk (on_both medium) (disk_of was) (disk_of now)) where
+    abbrev there : ServerPlaced medium now false (medium.arms last)
+    there = server_placed medium now false (medium.arms last) (kept false (medium.arms last) beside)
+
+    two : AreTwoUnarmed medium first last there.first there.last
+    two = pairs_follow medium (disk_of was) now false first last there.first there.last has there.has there.beside keeps
 
     pub opens_unarmed : (laptops : List (Laptop D)) (spare : List D) → laptops ≡ [] → spare ≡ rest
-        → AreUnarmed medium disks (with_first (disk_of now) (with_clients laptops spare))
-    opens_unarmed laptops spare none others = rw (split, none, others) unarmed_with
+        → AreUnarmed medium disks (with_server (disk_of now) (with_clients laptops spare))
+    opens_unarmed laptops spare none others = record {
+      was = record { first = first; last = last; others = rest; is = split };
+      now = record {
+        first = there.first;
+        last = there.last;
+        others = rest;
+        is =
+            server_list medium now false there.first there.last there.has (with_clients laptops spare)
+            ∙ ap (λ (ds : List D). with_ends there.first there.last ds)
+            (ap (λ (ls : List (Laptop D)). with_clients ls spare) none ∙ others);
+      };
+      server = two;
+      each = unarmed_same medium rest;
+    }
 
     -- the disks come back
-    pub gives_back : (back : List D) (disk : D) → disk_of now ≡ Some disk → back ≡ disk ∷ rest
-        → ServerStands medium [] was (unopened [] (counts_on medium first)) 0 → KeepsCommits medium was now → GivesBack medium disks back
-    gives_back back disk is put stands commits = record {
-      was = first;
-      now = disk;
-      rest = rest;
-      disks_are = split;
-      back_are = put;
-      unarmed = (rw is at unarmed_with).0;
-      begins = record {
-        first = disk;
-        rest = rest;
-        is = put;
-        begins = rw is at (commits.keeps [] (unopened [] (counts_on medium first)) 0 stands);
-      };
-    }
+    pub gives_back : ((disk : D) → medium.may_leave disk (medium.reads disk)) → (back : List D) (promoted : Bool) (one other : D)
+        → disk_of now ≡ Some (placed promoted one other) → back ≡ with_ends one other rest
+        → ServerStands medium [] was (unopened [] (paired counts.0 counts.1)) 0 → KeepsCommits medium was now
+        → GivesBack medium disks back
+    gives_back is_image back promoted one other is put stands commits =
+        let begins : ServerBegins medium false [] there.first there.last =
+        begins_there medium is_image [] (disk_of now) false there.first there.last there.has
+        (commits.keeps [] (unopened [] (paired counts.0 counts.1)) 0 stands) in
+        record {
+          was = record { first = first; last = last; others = rest; is = split };
+          now = record {
+            first = there.first;
+            last = there.last;
+            others = rest;
+            is = put ∙ sym (server_list medium now promoted one other is rest)
+                ∙ server_list medium now false there.first there.last there.has rest;
+          };
+          same = refl;
+          unarmed = two;
+          first = begins.of_first refl;
+          last = begins.of_last;
+        }
 
 -- ---- a client or a script
 
@@ -128,15 +222,37 @@ module _ {D : Type 0} (medium : Medium D) (name : List ℕ) (old : World D) (cli
       spare = record { front = disk ∷ []; split = spare };
     }
 
-    pub joined_arms : SameArms medium 1 old joined
-    joined_arms = record {
-      each = here_follows medium (disk_of old.server) _ _
-          (rw (push, spare, pushed_with old.clients.items next rest.items)
-          (clients_follow medium old.clients.items old.clients.items _ _ (same_clients medium old.clients.items)
-          (kept_follows medium (Some disk) (disk_in next) same rest.items rest.items (unarmed_same medium rest.items))));
-      spare = let more : length old.spare.items ≡ suc (length rest.items) = ap length spare in omega (arith, more);
-      commits = commits_same medium old.server old.server refl;
-    }
+    middle : Each (IsUnarmed medium) (with_clients old.clients.items old.spare.items) (with_clients clients.items rest.items)
+    middle =
+        rw (push, spare, pushed_with old.clients.items next rest.items)
+        (clients_follow medium old.clients.items old.clients.items _ _ (same_clients medium old.clients.items)
+        (kept_follows medium (Some disk) (disk_in next) same rest.items rest.items (unarmed_same medium rest.items)))
+
+    pub joined_arms : StandsForSome medium old → SameArms medium 1 false old joined
+    joined_arms some =
+        let server = server_same medium old some {turns = false} in
+        record {
+          each = record {
+            was = record {
+              first = server.follows.first;
+              last = server.follows.last;
+              others = with_clients old.clients.items old.spare.items;
+              is = server.follows.was (with_clients old.clients.items old.spare.items);
+            };
+            now = record {
+              first = server.follows.new_first;
+              last = server.follows.new_last;
+              others = with_clients clients.items rest.items;
+              is = server.follows.now (with_clients clients.items rest.items);
+            };
+            server = server.follows.unarmed;
+            each = middle;
+          };
+          spare = let more : length old.spare.items ≡ suc (length rest.items) = ap length spare in omega (arith, more);
+          places = server.places;
+          commits = server.commits;
+          stays = server.stays;
+        }
 
   -- ---- the machine declares it
 
@@ -154,6 +270,7 @@ module _ {D : Type 0} (medium : Medium D) (name : List ℕ) (old : World D) (cli
             subst (λ (names : List (List ℕ)). ServerStands medium names old.server m.server m.requests)
             (sym (map-append (λ (k : machine.Client). k.name) m.clients (k ∷ [])))
             (rw called (more_names medium (names_in m) name old.server m.server m.requests here.server));
+        beside = here.beside;
         clients_ = rw push (each_push (ClientStands medium m.scripts) old.clients.items m.clients next k started here.clients_);
         follow =
             rw push (all_push (λ l. Follows (stamps_in l) m.server.durable) old.clients.items next
@@ -229,6 +346,7 @@ module _ {D : Type 0} (medium : Medium D) where
       (refl, refl),
       record {
         server = rw adds.server here.server;
+        beside = rw adds.server here.beside;
         clients_ = rw adds.clients (clients_more medium m.scripts one old.clients.items m.clients here.clients_);
         follow = rw adds.clients here.follow;
         scripts =

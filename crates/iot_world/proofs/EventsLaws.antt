@@ -1,7 +1,7 @@
 -- An event of a world is one of the machine's, and what was declared before it still is.
 use Rattle.std.proofs.Common.{append-nil, refl}
 use Rattle.iot_world.proofs.Common.{◌≡◌, ℕ, List, [], ◌++◌, Result, Ok, Err, OnOk, sym, ap, ◌∙◌, sound_event, bind, asks, MakesStep}
-use Rattle.iot_world.proofs.Common.{EventSteps, IsWorldOfSome, scripts_of}
+use Rattle.iot_world.proofs.Common.{EventSteps, IsWorldOfSome, StandsForSome, scripts_of}
 use Rattle.iot_world.specs.Prelude.{Medium, ClientEvent, Event, Call, Profile, client_part, event_part, Refines, World}
 use Rattle.iot_event.specs.declared.event.Event.TheVariants as events
 
@@ -9,6 +9,15 @@ use Rattle.iot_event.specs.declared.event.Event.TheVariants as events
 pub then_ok : {T E P Q : Type 0} (r : Result T E) → OnOk r P → (P → Q) → OnOk r Q
 then_ok (Ok done) it then_ = then_ it
 then_ok (Err fault) it then_ = tt
+
+-- a world of some machine stands for one
+pub some_world : {D : Type 0} {medium : Medium D} {world : World D} → IsWorldOfSome medium world → StandsForSome medium world
+some_world some = record { machine = some.machine; stands = some.stands.stands }
+
+-- or from two things that are so then
+pub both_ok : {T E P Q R : Type 0} (r : Result T E) → OnOk r P → OnOk r Q → (P → Q → R) → OnOk r R
+both_ok (Ok done) one other then_ = then_ one other
+both_ok (Err fault) one other then_ = tt
 
 -- a step that said its text apart, if that stands behind another then
 pub behind : {W M A : Type 0} {stands : W → M → Type 0} {call : Call M A} {u v : W} {a : A} (x y said : List ℕ)

@@ -1,6 +1,6 @@
 -- The server's list gets longer in each event, or stays: so what a client holds goes on following it.
 use Rattle.iot_world.proofs.Common.{ℕ, [], List, Option, Some, None, IfSome, StandsFor, all_as, append-nil, sym}
-use Rattle.iot_world.specs.Prelude.{Commit, Event, Laptop, Machine, Medium, Node, World, event_part, kept_text, stamps_in}
+use Rattle.iot_world.specs.Prelude.{Commit, Disks, Event, Laptop, Machine, Medium, Node, World, event_part, kept_text, on_both, stamps_in}
 use Rattle.iot_judging.specs.Lists.{Follows}
 use Rattle.iot_judging.proofs.FollowingLaws.{Grows, follows_on}
 use Rattle.iot_lasting.specs.Lasting.{AddsOne, IsGrowing}
@@ -17,8 +17,8 @@ use Rattle.iot_world.specs.World.{AllFollow}
 pub same_list : (commits : List Commit) → Grows commits commits
 same_list commits = record { later = []; is = sym (append-nil commits) }
 
-is_sure : {D : Type 0} (medium : Medium D) (names : List (List ℕ)) (post : Post (ServerKeeper D) D) (node : Node (List Commit))
-    → PostStands (lists medium) medium (kept_text names) post node → IsSure node
+is_sure : {D : Type 0} (medium : Medium D) (names : List (List ℕ)) (post : Post (ServerKeeper D) (Disks D))
+    (node : Node (List Commit)) → PostStands (lists medium) (on_both medium) (kept_text names) post node → IsSure node
 is_sure medium names (Up keeper) node here = λ up. here.sure
 is_sure medium names (Down fallen) node here = λ up. absurd cc
 is_sure medium names Between node here = absurd here

@@ -1,6 +1,8 @@
 mod Common
 pub mod ListLaws
 pub mod ScriptsLaws
+pub mod PlacesLaws
+pub mod BeginsLaws
 pub mod GrowingLaws
 pub mod WorldsLaws
 pub mod DisksLaws

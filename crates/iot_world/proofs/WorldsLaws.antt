@@ -21,7 +21,19 @@ use Rattle.iot_exchange.specs.Scripts as exchange
 use Rattle.iot_event.specs.declared.event.Event.TheVariants as events
 use Rattle.iot_judging.specs.Lists.{Follows}
 use Rattle.iot_judging.proofs.FollowingLaws.{Grows, follows_kept}
+use Rattle.iot_disk.specs.Disk.{armed_with}
+use Rattle.iot_disk.specs.declared.disk.Pick.{Pick}
+use Rattle.iot_machine.specs.Events as machine
+use Rattle.iot_machine.specs.Nodes as nodes_of
+use Rattle.iot_server_node.specs.Servers.{ArmsServersBackup, Promotes}
+use Rattle.iot_world.proofs.Common.{◌⊎◌, Ok, Err, OnOk, Result, asks, bind, codes, inl, inr, says_this}
+use Rattle.iot_node.proofs.StepsLaws.{does}
+use Rattle.iot_machine.specs.Calls.{Asks, Says, either}
+use Rattle.iot_world.specs.Prelude.{Arms, ArmsBackup, IsBeside, KeepsBeside, arm_backup, backup_name, give_up, is_promoted, line, stop_line}
 use Rattle.iot_world.specs.World.{AllFollow}
+use Rattle.iot_world.proofs.Common.{KeepsDisks}
+use Rattle.iot_world.specs.Prelude.{HasPlaces, IfErr}
+use Rattle.iot_world.proofs.PlacesLaws.{has_places, promoted_is, server_placed}
 use Rattle.iot_world.proofs.GrowingLaws.{all_follow, event_grows, same_list}
 use Rattle.iot_world.proofs.ListLaws.{looked_up, all_got, each_get, each_set, each_length, each_place_set}
 
@@ -136,12 +148,16 @@ module _ {D : Type 0} (medium : Medium D) where
     abbrev now : World D
     now = record old { server = server_; clients = clients }
 
-    stands_with : (m : Machine) (node : Node (List Commit)) (n : ℕ) (ks : List Client) → StandsFor medium old m
-        → map (λ (k : Client). k.name) ks ≡ names_in m → ServerStands medium (names_in m) server_ node n
+    -- in which the server may have armed a disk, or have turned to its backup
+    stands_as : (m : Machine) (node : Node (List Commit)) (n : ℕ) (promoted : Bool) (arms : Arms) (ks : List Client)
+        → StandsFor medium old m → map (λ (k : Client). k.name) ks ≡ names_in m → ServerStands medium (names_in m) server_ node n
+        → IsBeside medium server_ promoted arms
         → Each (ClientStands medium m.scripts) clients.items ks → AllFollow clients.items node.durable → ArePlaced clients.items
-        → length clients.items ≡ length old.clients.items → StandsFor medium now (record m { server = node; requests = n; clients = ks })
-    stands_with m node n ks here names served each follow placed many = record {
+        → length clients.items ≡ length old.clients.items
+        → StandsFor medium now (record m { server = node; requests = n; promoted = promoted; beside = arms; clients = ks })
+    stands_as m node n promoted arms ks here names served beside each follow placed many = record {
       server = subst (λ (names : List (List ℕ)). ServerStands medium names server_ node n) (sym names) served;
+      beside = beside;
       clients_ = each;
       follow = follow;
       scripts = here.scripts;
@@ -152,8 +168,16 @@ module _ {D : Type 0} (medium : Medium D) where
       eight = omega (arith, here.eight, many);
     }
 
+    module _ (kept : KeepsBeside medium old.server server_) where
+      stands_with : (m : Machine) (node : Node (List Commit)) (n : ℕ) (ks : List Client) → StandsFor medium old m
+          → map (λ (k : Client). k.name) ks ≡ names_in m → ServerStands medium (names_in m) server_ node n
+          → Each (ClientStands medium m.scripts) clients.items ks → AllFollow clients.items node.durable → ArePlaced clients.items
+          → length clients.items ≡ length old.clients.items → StandsFor medium now (record m { server = node; requests = n; clients = ks })
+      stands_with m node n ks here names served =
+          stands_as m node n m.promoted m.beside ks here names served (kept m.promoted m.beside here.beside)
+
     -- one of the clients is another one
-    module _ (c : ℕ) (was laptop : Laptop D) (inside : c < length old.clients.items)
+    module _ (kept : KeepsBeside medium old.server server_) (c : ℕ) (was laptop : Laptop D) (inside : c < length old.clients.items)
         (value : was ≡ slice_index_or old.clients.items c was) (put : clients.items ≡ slice_set old.clients.items c laptop) where
       get : slice_get old.clients.items c ≡ Some was
       get = looked_up _ _ _ _ refl inside value
@@ -164,7 +188,8 @@ module _ {D : Type 0} (medium : Medium D) where
           → Follows (stamps_in laptop) node.durable
           → StandsFor medium now (record m { server = node; requests = n; clients = slice_set m.clients c k })
       put_there m k node n here stands place name served more follows =
-          stands_with m node n (slice_set m.clients c k) here (map-set_same (λ (k : Client). k.name) m.clients c k no_client name) served
+          stands_with kept m node n (slice_set m.clients c k) here
+          (map-set_same (λ (k : Client). k.name) m.clients c k no_client name) served
           (rw put (each_set (ClientStands medium m.scripts) old.clients.items m.clients c laptop k stands here.clients_))
           (rw put (all_set (λ l. Follows (stamps_in l) node.durable) old.clients.items c laptop was (λ it. follows)
           (all_follow old.clients.items m.server.durable node.durable more here.follow)))
@@ -208,17 +233,18 @@ module _ {D : Type 0} (medium : Medium D) where
       let named = (keeps (client_in m c).name).at (client_in m c) s.1 s.0 a refl s.3 in
       let followed = all_got (λ l. Follows (stamps_in l) m.server.durable) old.clients.items c was here.follow get in
       let follows = follows_kept (stamps_in was) (stamps_in laptop) m.server.durable trails followed in
-      let there = put_there old old.server clients c was laptop inside value put m s.1 m.server m.requests here s.4 in
+      let there =
+      put_there old old.server clients (λ promoted arms had. had) c was laptop inside value put m s.1 m.server m.requests here s.4 in
       (s.0, s.1, s.2, s.3, there (same ∙ here.placed c was get) named here.server (same_list m.server.durable) follows))
 
   -- ---- the server
 
-  module _ (old : World D) (server_ : ServerNode D) where
+  module _ (old : World D) (server_ : ServerNode D) (kept : KeepsBeside medium old.server server_) where
     served : (m : Machine) (node : Node (List Commit)) (n : ℕ) → StandsFor medium old m
         → ServerStands medium (names_in m) server_ node n → Grows m.server.durable node.durable
         → StandsFor medium (record old { server = server_ }) (record m { server = node; requests = n })
     served m node n here stands more =
-        stands_with old server_ old.clients m node n m.clients here refl stands here.clients_
+        stands_with old server_ old.clients kept m node n m.clients here refl stands here.clients_
         (all_follow old.clients.items m.server.durable node.durable more here.follow) here.placed refl
 
     pub at_server : {A : Type 0} {call : Call (Node (List Commit)) A} (x y : List ℕ) (a : A)
@@ -263,3 +289,124 @@ module _ {D : Type 0} (medium : Medium D) where
             → StandsFor medium (record old { server = server_ }) (counts_anew alive (server.set node m))
         anew m node here true more stands = served m node m.requests here stands more
         anew m node here false more stands = served m node 0 here stands more
+
+  -- ---- its backup
+
+  module _ (old : World D) (server_ : ServerNode D) where
+    -- the server stands so, with its backup so, and no client has changed
+    beside_with : (m : Machine) (node : Node (List Commit)) (n : ℕ) (promoted : Bool) (arms : Arms) → StandsFor medium old m
+        → ServerStands medium (names_in m) server_ node n → IsBeside medium server_ promoted arms → Grows m.server.durable node.durable
+        → StandsFor medium (record old { server = server_ })
+        (record m { server = node; requests = n; promoted = promoted; beside = arms })
+    beside_with m node n promoted arms here stands beside more =
+        stands_as old server_ old.clients m node n promoted arms m.clients here refl stands beside here.clients_
+        (all_follow old.clients.items m.server.durable node.durable more here.follow) here.placed refl
+
+    -- its disk is armed, or that of the server if it was promoted
+    pub arms_backup : (calls : ℕ) (pick : Pick) (x y : List ℕ) → y ≡ x ++ stop_line backup_name calls pick
+        → ((promoted : Bool) → ArmsServersBackup medium calls pick promoted old.server server_)
+        → MakesStep medium (ArmsBackup calls pick) old (record old { server = server_ }) x y tt
+    arms_backup calls pick x y wrote arms = does old (record old { server = server_ }) x y (λ m here. (wrote, by m here m.promoted refl))
+      where
+        by : (m : Machine) → StandsFor medium old m → (promoted : Bool) → m.promoted ≡ promoted
+            → StandsFor medium (record old { server = server_ }) (arm_backup calls pick promoted m)
+        by m here false is =
+            let beside = subst (λ (b : Bool). IsBeside medium old.server b m.beside) is here.beside in
+            let armed = arms false (names_in m) m.server m.requests m.beside here.server beside in
+            beside_with m m.server m.requests m.promoted (armed_with m.beside calls pick) here armed.0
+            (subst (λ (b : Bool). IsBeside medium server_ b (armed_with m.beside calls pick)) (sym is) armed.1) (same_list m.server.durable)
+        by m here true is =
+            let beside = subst (λ (b : Bool). IsBeside medium old.server b m.beside) is here.beside in
+            let armed = arms true (names_in m) m.server m.requests m.beside here.server beside in
+            beside_with m (nodes_of.armed calls pick m.server) m.requests m.promoted m.beside here armed.0
+            (subst (λ (b : Bool). IsBeside medium server_ b m.beside) (sym is) armed.1) (same_list m.server.durable)
+
+    -- it comes back from it, or stops in that; the first disk is given up
+    promotes_step : (x y : List ℕ) → is_up old.server ≡ false → is_promoted old.server ≡ false
+        → ((names : List (List ℕ)) → Promotes medium names old.server server_ x y)
+        → MakesStep medium machine.Promotes old (record old { server = server_ }) x y tt
+    promotes_step x y down own one = record {
+      step = λ m here.
+          let not_yet : m.promoted ≡ false = sym (promoted_is medium old.server m.promoted m.beside here.beside) ∙ own in
+          let beside = subst (λ (b : Bool). IsBeside medium old.server b m.beside) not_yet here.beside in
+          let s = (one (names_in m)).step m.server m.requests m.beside here.server beside in
+          let turned : Machine = give_up m in
+          let n : Machine = record m { server = s.2; requests = 0; promoted = true; beside = m.server.counts.arms } in
+          let comes : machine.promotes_unless false m s.0 tt n =
+          record {
+            mid = turned;
+            front = [];
+            rest = s.0;
+            answer = tt;
+            first = (refl, refl);
+            second = gets_then (then_silent (server.set s.2 turned) s.1 (record { inner = s.2; step = s.4; is = refl }) (refl, refl));
+            whole = refl;
+          } in
+          let step : machine.Promotes m s.0 tt n =
+          gets_then
+          (subst (λ (b : Bool). either (Says (λ _. line (codes "up"))) (Then (Asks (λ m. m.promoted)) machine.promotes_unless) b m s.0 tt n)
+          (sym (up_is medium (names_in m) old.server m.server m.requests here.server ∙ down))
+          (gets_then (subst (λ (b : Bool). machine.promotes_unless b m s.0 tt n) (sym not_yet) comes))) in
+          let more = event_grows medium old events.Promote m n s.0 here step in
+          (s.0, n, s.3, step, beside_with m s.2 0 true m.server.counts.arms here s.5 s.6 more);
+    }
+
+    -- one that is alive says that, and so does one that has done it before
+    promotes_up : (x y : List ℕ) → is_up old.server ≡ true → y ≡ x ++ line (codes "up") → MakesStep medium machine.Promotes old old x y tt
+    promotes_up x y up wrote =
+        bind old old old x x y true tt
+        (asks old x true (λ m here. sym (up_is medium (names_in m) old.server m.server m.requests here.server ∙ up)))
+        (says_this (line (codes "up")) old x y wrote)
+
+    promotes_again : (x y : List ℕ) → is_up old.server ≡ false → is_promoted old.server ≡ true → y ≡ x ++ line (codes "nothing")
+        → MakesStep medium machine.Promotes old old x y tt
+    promotes_again x y down again wrote =
+        bind old old old x x y false tt
+        (asks old x false (λ m here. sym (up_is medium (names_in m) old.server m.server m.requests here.server ∙ down)))
+        (bind old old old x x y true tt
+        (asks old x true (λ m here. sym (sym (promoted_is medium old.server m.promoted m.beside here.beside) ∙ again)))
+        (says_this (line (codes "nothing")) old x y wrote))
+
+    pub promotes : {T E : Type 0} (r : Result T E) (x y : List ℕ)
+        → (is_up old.server ≡ true → OnOk r (y ≡ x ++ line (codes "up")))
+        → (is_up old.server ≡ false → is_promoted old.server ≡ true → OnOk r (y ≡ x ++ line (codes "nothing")))
+        → ((is_up old.server ≡ true) ⊎ (is_promoted old.server ≡ true) → server_ ≡ old.server)
+        → (is_up old.server ≡ false → is_promoted old.server ≡ false
+        → OnOk r ((names : List (List ℕ)) → Promotes medium names old.server server_ x y))
+        → OnOk r (MakesStep medium machine.Promotes old (record old { server = server_ }) x y tt)
+    promotes (Err fault) x y up again stays one = tt
+    promotes (Ok done) x y up again stays one = by (is_up old.server) (is_promoted old.server) refl refl
+      where
+        as_it_was : server_ ≡ old.server → MakesStep medium machine.Promotes old old x y tt
+            → MakesStep medium machine.Promotes old (record old { server = server_ }) x y tt
+        as_it_was same it =
+            subst (λ (s : ServerNode D). MakesStep medium machine.Promotes old (record old { server = s }) x y tt) (sym same) it
+
+        by : (on promoted : Bool) → is_up old.server ≡ on → is_promoted old.server ≡ promoted
+            → MakesStep medium machine.Promotes old (record old { server = server_ }) x y tt
+        by true promoted is own = as_it_was (stays (inl is)) (promotes_up x y is (up is))
+        by false true is own = as_it_was (stays (inr own)) (promotes_again x y is own (again is own))
+        by false false is own = promotes_step x y is own (one is own)
+
+-- after its backup was armed, or memory ran out before that, the server has its disks still
+pub backup_keeps : {D T E : Type 0} (medium : Medium D) (calls : ℕ) (pick : Pick) (r : Result T E) (old : World D) (server_ : ServerNode D)
+    → StandsForSome medium old → IfErr r (λ _. server_ ≡ old.server)
+    → OnOk r ((promoted : Bool) → ArmsServersBackup medium calls pick promoted old.server server_)
+    → KeepsDisks old (record old { server = server_ })
+backup_keeps medium calls pick (Err fault) old server_ some same arms =
+    record { has = λ had. rw same had; spare = record { front = []; split = refl } }
+backup_keeps {D = D} medium calls pick (Ok done) old server_ some same arms = record {
+  has = λ had. record { server = by some.machine some.stands some.machine.promoted refl; clients = had.clients; room = had.room };
+  spare = record { front = []; split = refl };
+}
+  where
+    by : (m : Machine) → StandsFor medium old m → (promoted : Bool) → m.promoted ≡ promoted → HasPlaces server_
+    by m here false is =
+        let beside = subst (λ (b : Bool). IsBeside medium old.server b m.beside) is here.beside in
+        let armed = arms false (names_in m) m.server m.requests m.beside here.server beside in
+        has_places medium server_ false (armed_with m.beside calls pick)
+        (server_placed medium server_ false (armed_with m.beside calls pick) armed.1)
+    by m here true is =
+        let beside = subst (λ (b : Bool). IsBeside medium old.server b m.beside) is here.beside in
+        let armed = arms true (names_in m) m.server m.requests m.beside here.server beside in
+        has_places medium server_ true m.beside (server_placed medium server_ true m.beside armed.1)

@@ -17,7 +17,8 @@ IsAllowed (events.Script name code) clients scripts = is_declared name scripts �
 IsAllowed (events.At client what) clients scripts = (client < clients) × MayBefall what (length scripts)
 IsAllowed other clients scripts = Unit {0}
 
--- the events that arm a disk
+-- ---- the events that arm a disk, and the one that gives one up
+
 abbrev pub stops_node : NodeEvent → Bool
 stops_node (Stop calls pick) = true
 stops_node other = false
@@ -29,4 +30,9 @@ stops_client other = false
 abbrev pub arms_a_disk : Event → Bool
 arms_a_disk (events.At client what) = stops_client what
 arms_a_disk (events.Server what) = stops_node what
+arms_a_disk (events.StopBackup calls pick) = true
 arms_a_disk other = false
+
+abbrev pub promotes : Event → Bool
+promotes events.Promote = true
+promotes other = false

@@ -1,26 +1,36 @@
--- What decides whether a record that is in doubt is kept: the image from which its node comes back. So if all images of the disk have it,
--- or none has it, that decides.
+-- What decides whether a record that is in doubt is kept: the image from which its node comes back. So if all images of that disk have it,
+-- or none has it, that decides. The server comes back from its first disk by a restart, and from its backup by a promotion.
 use Rattle.std.specs.Prelude.{◌≡◌}
+use Rattle.iot_world.specs.Prelude.{Disks, Post, on_both, is_promoted, turned_post, false}
 use Rattle.iot_world.specs.Prelude.{ℕ, true, List, Medium, Event, NodeEvent, Restart, Declared, Client, Commit, server_name, is_fallen}
-use Rattle.iot_world.specs.Prelude.{CameIf, lists, ServerStands, post_of, is_up, Came, ClientStands, Laptop, World}
+use Rattle.iot_world.specs.Prelude.{CameIf, words_of, lists, ServerStands, post_of, is_up, Came, ClientStands, Laptop, World}
 use Rattle.iot_event.specs.declared.event.ClientEvent.TheVariants.{Node}
 use Rattle.iot_event.specs.declared.event.Event.TheVariants as events
 use Rattle.iot_kept.specs.Standing.{records_in}
 use Rattle.iot_machine.specs.Nodes as nodes
+use Rattle.iot_node.specs.declared.comeback.Comeback.{Comeback}
+use Rattle.iot_node.specs.declared.comeback.Comeback.TheVariants as comebacks
 use Rattle.iot_server_node.specs.Deciding.{DecidesPost, DecidesServer}
+use Rattle.iot_server_node.specs.declared.keeper.ServerKeeper.{ServerKeeper}
 use Rattle.iot_world.specs.World.{ClientIs}
 
 -- a client that comes back, by all images, and by the one from which it does
 pub record DecidesClient {D : Type 0} (medium : Medium D) (before after : List ℕ) (laptop : Laptop D) : Type 0 where
-  pub by_all : DecidesPost records_in medium laptop.post laptop.name before after
+  pub by_all : DecidesPost records_in medium.may_leave laptop.post (words_of comebacks.Restart laptop.name) laptop.name before after
   pub by_image : is_fallen laptop.post ≡ true → (scripts : List Declared) (m : Client) → ClientStands medium scripts laptop m
       → Came medium laptop before after m
 
+-- the server over the disks from which it comes back so
+abbrev pub post_for : {D : Type 0} → Comeback → Post (ServerKeeper D) (Disks D) → Post (ServerKeeper D) (Disks D)
+post_for comebacks.Restart post = post
+post_for comebacks.Promote post = turned_post post
+
 -- the server, likewise
-pub record RestartDecides {D : Type 0} (medium : Medium D) (old new : World D) (before after : List ℕ) : Type 0 where
-  pub by_all : DecidesServer medium old.server before after
+pub record DecidesComeback {D : Type 0} (medium : Medium D) (by : Comeback) (old new : World D) (before after : List ℕ) : Type 0 where
+  pub by_all : DecidesServer medium by old.server before after
   pub by_image : (names : List (List ℕ)) (n : ℕ) (node : nodes.Node (List Commit)) → ServerStands medium names old.server node n
-      → CameIf (lists medium) medium (is_up new.server) (post_of old.server) server_name before after node
+      → CameIf (lists medium) (on_both medium) (is_up new.server) (post_for by (post_of old.server)) (words_of by server_name)
+      before after node
 
 -- a node that the event restarts
 abbrev pub ClientDecides : {D : Type 0} → Medium D → NodeEvent → (before after : List ℕ) → Laptop D → Type 0
@@ -28,6 +38,8 @@ ClientDecides medium Restart before after laptop = DecidesClient medium before a
 ClientDecides medium other before after laptop = Unit {0}
 
 abbrev pub Decides : {D : Type 0} → Medium D → Event → (old new : World D) → (before after : List ℕ) → Type 0
-Decides medium (events.Server Restart) old new before after = RestartDecides medium old new before after
+Decides medium (events.Server Restart) old new before after = DecidesComeback medium comebacks.Restart old new before after
+Decides medium events.Promote old new before after =
+    is_promoted old.server ≡ false → DecidesComeback medium comebacks.Promote old new before after
 Decides medium (events.At client (Node what)) old new before after = ClientIs (ClientDecides medium what before after) client old
 Decides medium other old new before after = Unit {0}

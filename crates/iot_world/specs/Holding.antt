@@ -1,10 +1,10 @@
--- What the disks hold that a world gives back, and what they count.
-use Rattle.std.specs.Prelude.{◌≡◌, ◌⊎◌, ◌∷◌, ◌++◌}
-use Rattle.iot_world.specs.Prelude.{ℕ, List, length, map, Option, Some, None, Transaction, State, StandFor, Medium, ClientState, Running}
-use Rattle.iot_world.specs.Prelude.{so_far, Machine, Client, Commit, Counts, IsImage, IsOneMoreIfAny}
+-- What the disks hold that a world gives back.
+use Rattle.std.specs.Prelude.{◌≡◌, ◌⊎◌, ◌++◌}
+use Rattle.iot_world.specs.Prelude.{ℕ, Bool, true, false, List, length, map, Option, Some, None, Transaction, State, StandFor, Medium}
+use Rattle.iot_world.specs.Prelude.{ClientState, Running, so_far, Machine, Client, Commit, IsImage, IsOneMoreIfAny, LacksCommit}
 use Rattle.iot_machine.specs.Recorded.{option_named, queue_kept}
 use Rattle.iot_standing.specs.Kept.{access_kept}
-use Rattle.iot_world.specs.World.{Each}
+use Rattle.iot_world.specs.Disks.{Each, with_ends}
 
 -- an image has this list: it stands for its state, and as many records were ever appended to it
 abbrev pub IsListed : List Commit → (image : List ℕ) → Type 0
@@ -18,6 +18,32 @@ Holds Is images s (Some after) = (image : List ℕ) → images image → Is s im
 -- each has the server's list
 abbrev pub HoldsList : (images : List ℕ → Type 0) → List Commit → (doubt : Option (List Commit)) → Type 0
 HoldsList images commits doubt = Holds IsListed images commits doubt
+
+-- ---- the server's two disks
+
+-- Two images stand together for the longer list: the first has it, and the second has it or lacks its last commit. Then that commit's
+-- record is the first one's last, behind its checkpoint in force, and no checkpoint is due on the second before it.
+pub record StandTogether (one other : List ℕ) (commits longer : List Commit) : Type 0 where
+  pub first : IsListed longer one
+  pub second : IsListed longer other ⊎ LacksCommit one other (length commits) commits longer
+
+-- both have the list without the commit that is in doubt, or they stand together for the list with it
+abbrev pub HoldTogether : (one other : List ℕ) → (commits longer : List Commit) → Type 0
+HoldTogether one other commits longer =
+    (IsListed commits one × IsListed commits other) ⊎ StandTogether one other commits longer
+
+-- A disk and its backup. If nothing is in doubt, each image of either has the list; else it is so of each pair of images.
+abbrev pub HoldBoth : (ones others : List ℕ → Type 0) → List Commit → (doubt : Option (List Commit)) → Type 0
+HoldBoth ones others commits None = HoldsList ones commits None × HoldsList others commits None
+HoldBoth ones others commits (Some longer) =
+    (one other : List ℕ) → ones one → others other → HoldTogether one other commits longer
+
+-- The first disk and the last. Since the last was promoted, nothing is said of the first, which was given up.
+abbrev pub HoldsServer : (promoted : Bool) → (firsts lasts : List ℕ → Type 0) → List Commit → (doubt : Option (List Commit)) → Type 0
+HoldsServer false firsts lasts commits doubt = HoldBoth firsts lasts commits doubt
+HoldsServer true firsts lasts commits doubt = HoldsList lasts commits doubt
+
+-- ---- a client's
 
 -- a running transaction, with the acts of its script
 abbrev pub running_kept : Running → Transaction
@@ -51,21 +77,21 @@ HoldsClient images m doubt = Holds IsKept images m doubt
 abbrev pub KeepsClient : {D : Type 0} → Medium D → D → Client → Type 0
 KeepsClient medium disk client = HoldsClient (medium.may_leave disk) client.node.durable client.node.doubt
 
--- The first disk holds the server's list, with which the one that is in doubt begins, and each of the next what a client keeps, in order
--- of declaration. The disks behind them are as they were handed in.
+-- ---- all of them
+
+-- The first disk and the last hold the server's list, with which the one that is in doubt begins; of those between them each of the first
+-- holds what a client keeps, in order of declaration. The ones behind these are as they were handed in.
 pub record DisksHold {D : Type 0} (medium : Medium D) (handed back : List D) (m : Machine) : Type 0 where
-  pub server : D
+  pub first : D
   pub clients : List D
   pub spare : List D
-  pub is : back ≡ server ∷ clients ++ spare
-  pub list : HoldsList (medium.may_leave server) m.server.durable m.server.doubt
+  pub last : D
+  pub is : back ≡ with_ends first last (clients ++ spare)
+  pub list : HoldsServer m.promoted (medium.may_leave first) (medium.may_leave last) m.server.durable m.server.doubt
   pub longer : IsOneMoreIfAny m.server.durable m.server.doubt
   pub each : Each (KeepsClient medium) clients m.clients
-  pub first : D
+  pub first_handed : D
   pub front : List D
-  pub was : handed ≡ first ∷ front ++ spare
+  pub last_handed : D
+  pub was : handed ≡ with_ends first_handed last_handed (front ++ spare)
   pub aligned : length front ≡ length clients
-
--- what the machine's disks have counted, in the same order
-abbrev pub counts_in : Machine → List Counts
-counts_in m = m.server.counts ∷ map (λ client. client.node.counts) m.clients ++ m.spare

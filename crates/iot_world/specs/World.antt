@@ -4,7 +4,7 @@ use Rattle.iot_world.specs.Prelude.{ℕ, Bool, true, false, List, [], length, ma
 use Rattle.iot_world.specs.Prelude.{AllByRecursion, vec_len, vec_capacity, Medium, Code, AreDeclared, Event, Call, Refines, Declared}
 use Rattle.iot_world.specs.Prelude.{Machine, handed, client_in, event_part, names_in, IsSound, client_line, Opening, IsEmpty, KeepsDisk}
 use Rattle.iot_world.specs.Prelude.{counts_on, Server, disk_of, ServerStands, KeepsCommits, OpensClient, ClientStands, disk_in, Laptop}
-use Rattle.iot_world.specs.Prelude.{AreApart, World}
+use Rattle.iot_world.specs.Prelude.{AreApart, Disks, HasPlaces, IsBeside, first_placed, is_promoted, last_placed, World}
 use Rattle.iot_kept.specs.States as states
 use Rattle.iot_client.specs.Ties.{state_of, live_of, place_of, IsTied, AreBegun}
 use Rattle.iot_client.specs.declared.client.Client.{Client}
@@ -18,7 +18,8 @@ use Rattle.iot_standing.specs.States.{RunStand}
 use Rattle.iot_machine.specs.Machine.{Commit}
 use Rattle.iot_judging.specs.Lists.{Follows}
 use Rattle.iot_exchange.specs.Scripts as exchange
-use Rattle.iot_world.specs.Disks.{IsUnarmed, FirstBegins}
+use Rattle.iot_world.specs.Disks.{AreTwoUnarmed, DiskBegins, HasEnds, with_ends}
+pub use Rattle.iot_world.specs.Disks.{AreUnarmed, Each}
 
 -- ---- what a world has
 
@@ -46,12 +47,6 @@ ClientIs {D = D} P place world = (laptop : Laptop D) → slice_get world.clients
 
 -- ---- what a world stands for
 
--- two lists of the same length, whose elements go together by place
-abbrev pub Each : {W M : Type 0} → (W → M → Type 0) → List W → List M → Type 0
-Each stands [] [] = Unit {0}
-Each stands (w ∷ ws) (m ∷ ms) = stands w m × Each stands ws ms
-Each stands ws ms = ⊥
-
 -- the client at each place knows its place
 abbrev pub ArePlaced : {D : Type 0} → List (Laptop D) → Type 0
 ArePlaced {D = D} laptops = (place : ℕ) (laptop : Laptop D) → slice_get laptops place ≡ Some laptop → laptop.place ≡ place
@@ -60,10 +55,12 @@ ArePlaced {D = D} laptops = (place : ℕ) (laptop : Laptop D) → slice_get lapt
 abbrev pub AllFollow : {D : Type 0} → List (Laptop D) → List Commit → Type 0
 AllFollow laptops commits = AllByRecursion (λ laptop. Follows (stamps_in laptop) commits) laptops
 
--- its nodes, with their links, are those of the machine, what each client holds follows the server's list, no two of its scripts have the
--- same name, and there is an empty disk for each client that may still be declared
+-- Its nodes, with their links, are those of the machine, and its server's backup was promoted if the machine's was; what each client
+-- holds follows the server's list, no two of its scripts have the same name, and there is an empty disk for each client that may still be
+-- declared.
 pub record StandsFor {D : Type 0} (medium : Medium D) (world : World D) (m : Machine) : Type 0 where
   pub server : ServerStands medium (names_in m) world.server m.server m.requests
+  pub beside : IsBeside medium world.server m.promoted m.beside
   pub clients_ : Each (ClientStands medium m.scripts) world.clients.items m.clients
   pub follow : AllFollow world.clients.items m.server.durable
   pub scripts : m.scripts ≡ scripts_of world
@@ -108,18 +105,23 @@ abbrev pub with_clients : {D : Type 0} → List (Laptop D) → List D → List D
 with_clients [] disks = disks
 with_clients (laptop ∷ laptops) disks = with_first (disk_in laptop) (with_clients laptops disks)
 
+-- the server's, before them and behind them
+abbrev pub with_server : {D : Type 0} → Option (Disks D) → List D → List D
+with_server None disks = disks
+with_server (Some it) disks = with_ends (first_placed it) (last_placed it) disks
+
 -- the disks that it gives back
 abbrev pub disks_of : {D : Type 0} → World D → List D
-disks_of world = with_first (disk_of world.server) (with_clients world.clients.items world.spare.items)
+disks_of world = with_server (disk_of world.server) (with_clients world.clients.items world.spare.items)
 
 abbrev pub LaptopHasDisk : {D : Type 0} → Laptop D → Type 0
 LaptopHasDisk laptop = IsSome (disk_in laptop)
 
--- each node has its disk, and there is room to put them together again
+-- each node has its disk, the server both of its, and there is room to put them together again
 pub record HasDisks {D : Type 0} (world : World D) : Type 0 where
-  pub server : IsSome (disk_of world.server)
+  pub server : HasPlaces world.server
   pub clients : AllByRecursion LaptopHasDisk world.clients.items
-  pub room : length world.clients.items + vec_len world.spare < vec_capacity world.spare
+  pub room : length world.clients.items + vec_len world.spare + 2 ≤ vec_capacity world.spare
 
 -- these disks are the last of those
 pub record AreLast {D : Type 0} (disks all : List D) : Type 0 where
@@ -141,31 +143,29 @@ abbrev pub KeepsNode : {D T E : Type 0} → Medium D → (arms : Bool) → Resul
 KeepsNode medium true (Ok done) old new = LaptopHasDisk old → LaptopHasDisk new
 KeepsNode medium arms result old new = KeepsDisk medium (disk_in old) (disk_in new)
 
--- none of these disks was armed, each at its place
-abbrev pub AreUnarmed : {D : Type 0} → Medium D → (old new : List D) → Type 0
-AreUnarmed medium old new = Each (IsUnarmed medium) old new
-
--- nor was one of the world's; at most so many that were spare are not any more; and no commit of the server's list is lost
-pub record SameArms {D : Type 0} (medium : Medium D) (joins : ℕ) (old new : World D) : Type 0 where
+-- None of the world's disks was armed; at most so many that were spare are not any more; the server has its disks, which have lost no
+-- commit of its list; and its backup was not promoted, unless it may have been.
+pub record SameArms {D : Type 0} (medium : Medium D) (joins : ℕ) (turns : Bool) (old new : World D) : Type 0 where
   pub each : AreUnarmed medium (disks_of old) (disks_of new)
   pub spare : length old.spare.items ≤ length new.spare.items + joins
+  pub places : HasPlaces new.server
   pub commits : KeepsCommits medium old.server new.server
+  pub stays : turns ≡ false → is_promoted new.server ≡ is_promoted old.server
 
 -- how many clients an event declares
 abbrev pub joined_by : Event → ℕ
 joined_by (events.Client name) = 1
 joined_by other = 0
 
--- The disks come back of a world that was not made. The first was not armed, and each of its images stands for a state to which commits
--- lead, each of which can follow the ones before it; the others are as they were.
+-- The disks come back of a world that was not made. The server's two were not armed, and each of their images stands for a state to which
+-- commits lead, each of which can follow the ones before it; the others are as they were.
 pub record GivesBack {D : Type 0} (medium : Medium D) (disks back : List D) : Type 0 where
-  pub was : D
-  pub now : D
-  pub rest : List D
-  pub disks_are : disks ≡ was ∷ rest
-  pub back_are : back ≡ now ∷ rest
-  pub unarmed : IsUnarmed medium was now
-  pub begins : FirstBegins medium [] back
+  pub was : HasEnds disks
+  pub now : HasEnds back
+  pub same : now.others ≡ was.others
+  pub unarmed : AreTwoUnarmed medium was.first was.last now.first now.last
+  pub first : DiskBegins medium [] now.first
+  pub last : DiskBegins medium [] now.last
 
 -- ---- how a world begins
 
@@ -180,7 +180,8 @@ pub record Opens {D : Type 0} (medium : Medium D) (disks : List D) (before after
   pub no_scripts : script_names world ≡ []
   pub has : HasDisks world
   pub first : D
-  pub were : disks ≡ first ∷ world.spare.items
+  pub last : D
+  pub were : disks ≡ with_ends first last world.spare.items
 
 -- ---- how a world changes
 

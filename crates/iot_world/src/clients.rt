@@ -1,5 +1,5 @@
 //! Declarations, and the events of one client among all.
-ghost use Rattle.std.specs.Prelude.{◌≡◌, ◌<◌, ◌++◌, true, OnOk};
+ghost use Rattle.std.specs.Prelude.{◌≡◌, ◌<◌, ◌++◌, true, false, OnOk};
 ghost use Rattle.iot_world.specs.Prelude.{Declares, client_part, client_line, IsUnopened, SamePlace, disk_in, KeepsDisk};
 ghost use Rattle.iot_event.specs.declared.event.Event.TheVariants.{At};
 ghost use Rattle.iot_text.specs.Texts.{Extends};
@@ -32,7 +32,7 @@ impl<D: Disk> World<D> {
             (MakesStep D.medium (Declares name.now) self.old self.new out.old out.new tt) }
         ensures declared { OnOk result (DeclaresClient self.old self.new) }
         ensures disks { KeepsDisks self.old self.new }
-        ensures arms { SameArms D.medium 1 self.old self.new }
+        ensures arms { SameArms D.medium 1 false self.old self.new }
     {
         self.clients.reserve(1)?;
         let place = self.clients.len() as u64;
@@ -49,9 +49,10 @@ impl<D: Disk> World<D> {
         name: &Name,
         script: &SharedScript,
     ) -> Result<(), NoMemory>
+        requires { StandsForSome D.medium self.old }
         ensures world { OnOk result (AddsScript name.now script.now self.old self.new) }
         ensures disks { KeepsDisks self.old self.new }
-        ensures arms { SameArms D.medium 0 self.old self.new }
+        ensures arms { SameArms D.medium 0 false self.old self.new }
     {
         self.scripts.push(DeclaredScript {
             name: *name,
@@ -76,7 +77,7 @@ impl<D: Disk> World<D> {
         ensures decided { OnOk result (Decides D.medium (At client what.now) self.old self.new out.old out.new) }
         ensures counts { SameDeclared self.old self.new }
         ensures disks { KeepsDisks self.old self.new }
-        ensures arms { UnlessArmed (stops_client what.now) result (SameArms D.medium 0 self.old self.new) }
+        ensures arms { UnlessArmed (stops_client what.now) result (SameArms D.medium 0 false self.old self.new) }
         ensures text { stops_client what.now ≡ true → Extends out.old out.new }
     {
         let laptop = &mut self.clients[client as usize];

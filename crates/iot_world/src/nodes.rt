@@ -1,16 +1,16 @@
 //! What befalls a node or a link.
-ghost use Rattle.std.specs.Prelude.{◌≡◌, List, true, OnOk};
-ghost use Rattle.iot_event.specs.declared.event.Event.TheVariants.{Server};
+ghost use Rattle.std.specs.Prelude.{◌≡◌, List, true, false, OnOk};
+ghost use Rattle.iot_event.specs.declared.event.Event.TheVariants.{Server, Promote};
 ghost use Rattle.iot_machine.specs.Events.{server_part};
 ghost use Rattle.iot_world.specs.Prelude.{Show, ClientStands, StandsAnyhow, SamePlace, KeepsTrails, disk_in, Declared};
-ghost use Rattle.iot_world.specs.Prelude.{Refines, node_part, link_part};
+ghost use Rattle.iot_world.specs.Prelude.{Refines, node_part, link_part, Promotes, ArmsBackup};
 ghost use Rattle.iot_text.specs.Texts.{Extends};
 ghost use Rattle.iot_world.specs.Allowed.{arms_a_disk, stops_node};
 ghost use Rattle.iot_world.specs.Deciding.{Decides, ClientDecides};
 ghost use Rattle.iot_world.specs.World.{StandsForSome, MakesStep, SameDeclared, KeepsDisks, SameArms, KeepsNode, UnlessArmed};
 
 use crate::world::World;
-use iot_disk::Disk;
+use iot_disk::{Disk, Pick};
 use iot_event::{ClientEvent, Event, LinkEvent, NodeEvent};
 use iot_inspect::show;
 use iot_laptop::Laptop;
@@ -32,7 +32,7 @@ impl<D: Disk> World<D> {
         ensures decided { OnOk result (Decides D.medium (Server what) self.old self.new out.old out.new) }
         ensures counts { SameDeclared self.old self.new }
         ensures disks { KeepsDisks self.old self.new }
-        ensures arms { UnlessArmed (stops_node what) result (SameArms D.medium 0 self.old self.new) }
+        ensures arms { UnlessArmed (stops_node what) result (SameArms D.medium 0 false self.old self.new) }
         ensures text { stops_node what ≡ true → Extends out.old out.new }
     {
         match what {
@@ -41,6 +41,36 @@ impl<D: Disk> World<D> {
             NodeEvent::Crash => self.server.crash(out),
             NodeEvent::Restart => self.server.restart(alloc, out),
         }
+    }
+
+    /// The server comes back from its backup, and gives the first disk up, unless it is alive or has done that before.
+    pub(crate) fn promote(&mut self, alloc: Global, out: &mut Text) -> Result<(), NoMemory>
+        requires { StandsForSome D.medium self.old }
+        ensures step { OnOk result (MakesStep D.medium Promotes self.old self.new out.old out.new tt) }
+        ensures decided { OnOk result (Decides D.medium Promote self.old self.new out.old out.new) }
+        ensures counts { SameDeclared self.old self.new }
+        ensures disks { KeepsDisks self.old self.new }
+        ensures arms { SameArms D.medium 0 true self.old self.new }
+    {
+        self.server.promote(alloc, out)
+    }
+
+    /// A later call of the backup's disk is to fail, or of the server's own if the backup was promoted.
+    pub(crate) fn stop_backup(
+        &mut self,
+        calls: u64,
+        pick: Pick,
+        out: &mut Text,
+    ) -> Result<(), NoMemory>
+        requires { StandsForSome D.medium self.old }
+        ensures step { OnOk result
+            (MakesStep D.medium (ArmsBackup calls pick) self.old self.new out.old out.new tt) }
+        ensures counts { SameDeclared self.old self.new }
+        ensures disks { KeepsDisks self.old self.new }
+        ensures arms { UnlessArmed true result (SameArms D.medium 0 false self.old self.new) }
+        ensures text { Extends out.old out.new }
+    {
+        self.server.arm_backup(calls, pick, out)
     }
 }
 
@@ -111,7 +141,12 @@ pub(crate) fn arms(event: &Event) -> bool
             ClientEvent::Node(what) => is_stop(*what),
             ClientEvent::Link(_) | ClientEvent::Task(_) => false,
         },
-        Event::Client(_) | Event::Script(_, _) | Event::Profile(_, _) | Event::Log => false,
+        Event::StopBackup { calls: _, pick: _ } => true,
+        Event::Client(_)
+        | Event::Script(_, _)
+        | Event::Profile(_, _)
+        | Event::Promote
+        | Event::Log => false,
     }
 }
 

@@ -3,12 +3,12 @@ ghost use Rattle.std.specs.Prelude.{◌≡◌, List, [], ◌∷◌, true, OnOk, 
 ghost use Rattle.std.specs.Option.{option_copied};
 ghost use Rattle.iot_client.specs.Ties.{disk_of as client_disk};
 ghost use Rattle.iot_world.specs.Prelude.{AreDeclared, Event as Happens, disk_in, Machine, disk_of};
-ghost use Rattle.iot_server.specs.Servers as servers;
+ghost use Rattle.iot_server_node.specs.Servers as servers;
 ghost use Rattle.iot_text.specs.Texts.{Extends};
-ghost use Rattle.iot_world.specs.Allowed.{IsAllowed, arms_a_disk};
-ghost use Rattle.iot_world.specs.Disks.{AreFresh};
+ghost use Rattle.iot_world.specs.Allowed.{IsAllowed, arms_a_disk, promotes};
+ghost use Rattle.iot_world.specs.Disks.{AreFresh, place_of};
 
-use crate::disks::{put_first, take_first};
+use crate::disks::{put_ends, put_first, take_ends};
 use crate::nodes::arms;
 use iot_client::Client;
 use iot_disk::Disk;
@@ -39,8 +39,8 @@ impl<D: Disk> World<D> {
     ghost use Rattle.iot_world.specs.World.{LendsServer, LendsClient, IsReady};
     ghost use Rattle.iot_world.specs.Deciding.{Decides};
 
-    /// The world before any event, with a server on the first of the disks. Each client that is declared takes the next one. If the
-    /// server's disk fails in its start, the server has stopped, which is said.
+    /// The world before any event, with a server on the first of the disks, of which the last is the backup. Each client that is declared
+    /// takes the next one of the others. If one of the server's disks fails in its start, the server has stopped, which is said.
     ///
     /// # Errors
     ///
@@ -61,7 +61,8 @@ impl<D: Disk> World<D> {
         ensures text { Extends out.old out.new }
     {
         let mut disks = disks;
-        let mut server = ServerNode::unopened(take_first(&mut disks));
+        let (first, backup) = take_ends(&mut disks);
+        let mut server = ServerNode::unopened(first, backup);
         match server.open(alloc, out) {
             Ok(_on) => Ok(World {
                 server,
@@ -70,7 +71,8 @@ impl<D: Disk> World<D> {
                 spare: disks,
             }),
             Err(_no_memory) => {
-                put_first(&mut disks, server.into_disk());
+                let (first, last) = server.into_disks();
+                put_ends(&mut disks, first, last);
                 Err(disks)
             }
         }
@@ -96,9 +98,9 @@ impl<D: Disk> World<D> {
         // image that a node came back from.
         ensures decided { OnOk result (Decides D.medium event.now self.old self.new out.old out.new) }
 
-        // The disks are those of before. If memory ran out, none was armed, and the server's still begins with the commits of its list.
+        // The disks are those of before. If memory ran out, none was armed, and the server's still begin with the commits of its list.
         ensures disks { KeepsDisks self.old self.new }
-        ensures arms { IfErr result (λ _. SameArms D.medium (joined_by event.now) self.old self.new) }
+        ensures arms { IfErr result (λ _. SameArms D.medium (joined_by event.now) (promotes event.now) self.old self.new) }
 
         // For the events after it.
         ensures declared { OnOk result ((later : List Happens) → DeclaredOn (event.now ∷ later) self.old → DeclaredOn later self.new) }
@@ -119,18 +121,29 @@ impl<D: Disk> World<D> {
         out.append_text(&said)
     }
 
-    /// The server, if it is alive. Its disk is the first of those that `into_disks` gives back. Does not allocate.
+    /// The server, if it is alive. Its disk is the one at `server_place` of those that `into_disks` gives back, and its backup, if it has
+    /// one, the last of them. Does not allocate.
     pub fn server(&self) -> Option<&Server<D>>
         // Its tree, its labels and its count of requests are those of each machine for which the world stands.
         ensures lent { (m : Machine) → StandsFor D.medium self.now m
             → LendsServer (option_copied result) m }
-        ensures disk { IfSome (option_copied result) (λ it. disk_of self.now.server ≡ Some (servers.disk_of it)) }
+        ensures disk { IfSome (option_copied result) (λ it. servers.HasDisks it (disk_of self.now.server)) }
     {
         self.server.lent()
     }
 
-    /// The client at this place, counted from 0 in order of declaration, if it is declared and alive. Its disk is the one after the
-    /// server's and those of the clients before it, of those that `into_disks` gives back. Does not allocate.
+    /// The place of the server's disk among those that `into_disks` gives back: 0, or 9 since its backup was promoted. Does not allocate.
+    pub fn server_place(&self) -> usize
+        ensures { (m : Machine) → StandsFor D.medium self.now m → result ≡ place_of m.promoted }
+    {
+        if self.server.is_promoted() {
+            return 9;
+        }
+        0
+    }
+
+    /// The client at this place, counted from 0 in order of declaration, if it is declared and alive. Its disk is the one after the first
+    /// and those of the clients before it, of those that `into_disks` gives back. Does not allocate.
     pub fn client(&self, place: u64) -> Option<&Client<D>>
         // Its tree, its view, its queue and its running transactions are those of each machine for which the world stands. It can be
         // looked at: it meets what `view`, `running`, `at_end` and `submission` of a client ask for.
@@ -153,7 +166,8 @@ impl<D: Disk> World<D> {
             (EventSteps D.medium event.now self.old self.new out.old out.new) }
         ensures decided { OnOk result (Decides D.medium event.now self.old self.new out.old out.new) }
         ensures disks { KeepsDisks self.old self.new }
-        ensures arms { UnlessArmed (arms_a_disk event.now) result (SameArms D.medium (joined_by event.now) self.old self.new) }
+        ensures arms { UnlessArmed (arms_a_disk event.now) result
+            (SameArms D.medium (joined_by event.now) (promotes event.now) self.old self.new) }
         ensures text { arms_a_disk event.now ≡ true → Extends out.old out.new }
         ensures declared { OnOk result ((later : List Happens) → DeclaredOn (event.now ∷ later) self.old → DeclaredOn later self.new) }
     {
@@ -163,11 +177,13 @@ impl<D: Disk> World<D> {
             Event::Profile(_, _) => Ok(()),
             Event::At { client, what } => self.at(alloc, *client, what, out),
             Event::Server(what) => self.befall_server(alloc, *what, out),
+            Event::Promote => self.promote(alloc, out),
+            Event::StopBackup { calls, pick } => self.stop_backup(*calls, *pick, out),
             Event::Log => self.log(alloc, out),
         }
     }
 
-    /// Gives the disks back, in the order in which they were handed in. Does not allocate.
+    /// Gives the ten disks back, in the order in which they were handed in. Does not allocate.
     pub fn into_disks(self) -> Vec<D>
         requires { HasDisks self }
         ensures { result.items ≡ disks_of self }
@@ -182,7 +198,8 @@ impl<D: Disk> World<D> {
             put_first(&mut spare, laptop.into_disk());
         }
         clients.destroy_empty();
-        put_first(&mut spare, server.into_disk());
+        let (first, last) = server.into_disks();
+        put_ends(&mut spare, first, last);
         spare
     }
 }

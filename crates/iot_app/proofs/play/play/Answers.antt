@@ -28,7 +28,7 @@ returns-in-Ok-clause-ends g c =
     (DisksKeep it c.args.disks.items back) (DisksStay it c.args.disks.items back) c.args.events.now)
     (sym c.into_disks.ensures)
     (holds_as counts c.play_on-status.result _ _ _ _ _ c.args.events.now
-    (disks_keep it c.args.disks.items _ _ _ _ c.in-Ok.ensures.opens c.play_on-status.ensures.disks)
+    (disks_keep it c.args.disks.items _ _ _ _ c.in-Ok.ensures.opens c.play_on-status.ensures.disks g.met.D.Disk.reads_is_image)
     (disks_stay it c.args.disks.items _ _ _ _ c.in-Ok.ensures.opens c.play_on-status.ensures.disks)
     (c.play_on-status.ensures.ends counts
     (opened_on it c.args.disks.items c.new-opening.result c.new.new.out c.in-Ok.world c.new-opening.ensures c.in-Ok.ensures.opens)))

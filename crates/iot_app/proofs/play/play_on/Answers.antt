@@ -33,7 +33,7 @@ returns-in-Err-apply-clause-ends g c =
     let it = g.D.Disk.medium in
     λ handed is.
     plays_first it handed (Appends (g.K.Sink.written c.args.sink.now) (g.K.Sink.written c.events.sink))
-    c.args.events.now c.events.world c.events.event-index c.event-item.result c.apply.new.self
+    c.args.events.now c.events.world g.met.D.Disk.reads_is_image c.events.event-index c.event-item.result c.apply.new.self
     (plays_as it handed (Follows (g.K.Sink.written c.write_all.new.sink) c.args.opening.now (g.K.Sink.written c.events.sink))
     c.args.events.now c.events.world (Appends (g.K.Sink.written c.args.sink.now) (g.K.Sink.written c.events.sink))
     c.events.event-index

@@ -60,14 +60,16 @@ returns-clause-failed g c =
     let it = g.D.Disk.medium in
     any_err c.with_text.result _
     (λ handed is.
-    plays_ended it handed _ c.args.events.now c.events.world c.events.event-index (c.events.invariant.plays handed is))
+    plays_ended it handed _ c.args.events.now c.events.world g.met.D.Disk.reads_is_image c.events.event-index
+    (c.events.invariant.plays handed is))
 
 pub returns-in_err-apply-clause-failed : goal.returns-in_err-apply-clause-failed
 returns-in_err-apply-clause-failed g c =
     let it = g.D.Disk.medium in
     any_err c.from_residual.result _
     (λ handed is.
-    plays_failed it handed _ c.args.events.now c.events.world c.events.event-index c.event-item.result c.apply.new.self
+    plays_failed it handed _ c.args.events.now c.events.world g.met.D.Disk.reads_is_image c.events.event-index c.event-item.result
+    c.apply.new.self
     (c.events.invariant.plays handed is) c.events-test.true c.event-item.is c.in_err-apply.ensures.arms)
 
 pub returns-in_err-apply-clause-disks : goal.returns-in_err-apply-clause-disks
@@ -79,7 +81,7 @@ returns-in_err-take_lines-clause-failed g c =
     let it = g.D.Disk.medium in
     any_err c.from_residual-in_err-take_lines.result _
     (λ handed is.
-    plays_ended it handed _ c.args.events.now c.apply.new.self (c.events.event-index + 1)
+    plays_ended it handed _ c.args.events.now c.apply.new.self g.met.D.Disk.reads_is_image (c.events.event-index + 1)
     (plays_more it handed (HasCounted c.events.counts c.events.text) c.args.events.now c.events.world
     c.apply.new.self c.events.event-index c.event-item.result c.events.text c.apply.new.out (c.events.invariant.plays handed is)
     c.events-test.true c.event-item.is c.in_ok-apply.ensures.step (λ _. Unit {0}) c.in_ok-apply.ensures.declared (λ text says is had. tt)))

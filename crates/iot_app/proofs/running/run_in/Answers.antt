@@ -23,7 +23,7 @@ returns-clause-failed g c =
     any_err c.tell.result _
     (λ handed is.
     ran_untold it handed c.args.events.now c.do_all.new.world c.in_ok-counts.counts
-    (c.in_ok-counts.ensures.ran handed is))
+    (c.in_ok-counts.ensures.ran handed is) g.met.D.Disk.reads_is_image)
 
 pub returns-in_err-counts-clause-failed : goal.returns-in_err-counts-clause-failed
 returns-in_err-counts-clause-failed g c = any_err c.from_residual.result _ c.in_err-counts.ensures.failed

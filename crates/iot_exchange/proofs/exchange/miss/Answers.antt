@@ -10,4 +10,4 @@ returns-clause-all g c = λ scripts names at. record {
 
 pub returns-clause-disks : goal.returns-clause-disks
 returns-clause-disks g c =
-    let keeps = c.requires.ready.keeps in keeps_served keeps c.pass.ensures.disk keeps.server keeps.records
+    let keeps = c.requires.ready.keeps in keeps_served keeps c.pass.ensures.disk keeps.server keeps.beside keeps.records

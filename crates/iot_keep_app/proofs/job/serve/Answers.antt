@@ -1,11 +1,16 @@
+use Rattle.std.proofs.Common.{ap, ◌∙◌}
+use Rattle.std.specs.Prelude.{option_map}
 use Rattle.iot_keep_app.specs.Serving.{kept_on}
 use Rattle.iot_keep_app.proofs.EndingsLaws.{idle, start_fails, then_ends}
 use Rattle.iot_keep_app.proofs.job.serve.Goals as goal
 
+pub alone-disk-requires : goal.alone-disk-requires
+alone-disk-requires g c = c.into_disks.ensures.second ∙ ap (option_map _) c.serve_all-result.ensures.alone
+
 pub returns-in-Ok-clause-ends : goal.returns-in-Ok-clause-ends
 returns-in-Ok-clause-ends g c =
     let medium = g.D.Disk.medium in
-    rw c.into_disk-disk.ensures.disk (then_ends _ _ (medium.reads c.args.disk) _ (kept_on medium c.in-Ok.server)
+    rw (c.alone-disk.ensures ∙ c.into_disks.ensures.first) (then_ends _ _ (medium.reads c.args.disk) _ (kept_on medium c.in-Ok.server)
     c.in-Ok.ensures.stands.stands c.serve_all-result.result c.serve_all-result.ensures.ends)
 
 pub returns-in-Err-clause-ends : goal.returns-in-Err-clause-ends

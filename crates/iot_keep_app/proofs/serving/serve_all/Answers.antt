@@ -44,6 +44,7 @@ requests-preserved g c =
           (kept_on medium c.serve_next.new.server)
           (at_answered _ _ _ c.in-Ok-Answered.field-0 c.in-Ok-Answered.field-0-is now.ends);
       synced = now.synced;
+      alone = now.alone;
       source_faults = now.source_faults ∙ before.source_faults;
       sink_faults = now.sink_faults.0 ∙ before.sink_faults;
       sink_empties = now.sink_faults.1 ∙ before.sink_empties;

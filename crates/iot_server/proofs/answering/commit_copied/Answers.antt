@@ -1,7 +1,7 @@
 use Rattle.std.proofs.Common.{◌≡◌, None, sym, subst, refl}
 use Rattle.iot_acts.specs.Traces.{ReadsHold}
-use Rattle.iot_server.proofs.CopiesLaws.{is_commit, answered_as, cut_off_as}
-use Rattle.iot_server.proofs.StandingLaws.{still_stays}
+use Rattle.iot_server.proofs.CopiesLaws.{is_commit, answered_as, left_as}
+use Rattle.iot_server.proofs.LeavingLaws.{leaves_lacking}
 use Rattle.iot_store.specs.Numbers.{number_in}
 use Rattle.iot_store.specs.Records.{IsRecord}
 use Rattle.iot_store.specs.Rules.{IsCommit}
@@ -30,12 +30,16 @@ commit_if_fit-requires-clause-holds g c =
     c.requires.holds
 
 pub returns-clause-answered : goal.returns-clause-answered
-returns-clause-answered g c = answered_as _ _ _ _ _ c.args.commit.now c.in_ok-copy.copy c.in_ok-copy.ensures
-    c.commit_if_fit.ensures.answered
+returns-clause-answered g c =
+    answered_as g.D.Disk.medium c.args.store.now c.commit_if_fit.new.store c.commit_if_fit.result c.args.commit.now c.in_ok-copy.copy
+    c.in_ok-copy.ensures c.commit_if_fit.ensures.answered
 
-pub returns-clause-stopped : goal.returns-clause-stopped
-returns-clause-stopped g c = λ stopped.
-    cut_off_as _ _ _ _ c.args.commit.now c.in_ok-copy.copy c.in_ok-copy.ensures (c.commit_if_fit.ensures.stopped stopped)
+pub returns-clause-leaves : goal.returns-clause-leaves
+returns-clause-leaves g c =
+    left_as g.D.Disk.medium c.args.store.now c.commit_if_fit.new.store c.commit_if_fit.result c.args.commit.now c.in_ok-copy.copy
+    c.in_ok-copy.ensures c.commit_if_fit.ensures.leaves
 
-pub returns-in_err-copy-clause-no_memory : goal.returns-in_err-copy-clause-no_memory
-returns-in_err-copy-clause-no_memory g c = λ _. still_stays g.D.Disk.medium c.args.store.now c.requires.synced _ refl
+pub returns-in_err-copy-clause-leaves : goal.returns-in_err-copy-clause-leaves
+returns-in_err-copy-clause-leaves g c =
+    leaves_lacking g.D.Disk.medium c.args.store.now c.requires.synced _ c.args.store.now refl refl
+    c.from_residual.result c.from_residual.ensures.1

@@ -5,6 +5,7 @@ use Rattle.iot_limits.specs.Spelled.{IsSpelledTree}
 use Rattle.iot_server.proofs.ChangesLaws.{changes_spelled}
 use Rattle.iot_server.proofs.StandingLaws.{store_spelled}
 use Rattle.iot_server.proofs.RepliesLaws.{if_ok, refreshed}
+use Rattle.iot_store.specs.Store.{state_of}
 use Rattle.iot_stamp.specs.Refresh.{asked, changes_for}
 use Rattle.iot_text.specs.Paths.{path_cmp}
 use Rattle.iot_tree.specs.Tree.{Path}
@@ -23,7 +24,7 @@ write_reply-requires g c =
     c.in_ok-changes.ensures.value c.in_ok-changes.ensures.rising c.in_ok-changes.ensures.each
 
 pub returns : goal.returns
-returns g c = λ client.
+returns g c = λ client was.
     let has =
     changes_spelled c.stamped.result.now c.as_slice.result.now
     (asked c.stamped.result.now c.as_slice.result.now c.args.want.now) c.in_ok-changes.changes
@@ -34,6 +35,6 @@ returns g c = λ client.
     c.as_slice.ensures c.in_ok-changes.ensures.value in
     if_ok _ _ c.write_reply.result
     (λ bytes spelled.
-    refreshed _ _ bytes.items client c.args.known.now c.args.want.now c.in_ok-changes.changes c.stamped.result.now
-    c.stamped.ensures.stamps is has spelled)
+    refreshed (state_of c.args.store.now) was bytes.items client c.args.known.now c.args.want.now c.in_ok-changes.changes
+    c.stamped.result.now c.stamped.ensures.stamps is has spelled)
     c.write_reply.ensures.spelled

@@ -1,5 +1,16 @@
+use Rattle.std.proofs.Common.{ap}
+use Rattle.iot_laptop.specs.Below.{is_on}
+use Rattle.iot_laptop.proofs.NodesLaws.{awake_stands, up_stands}
 use Rattle.iot_laptop.proofs.RestartLaws.{cuts_live}
 use Rattle.iot_laptop.proofs.laptop.Laptop.cut_link.Goals as goal
+
+pub second-requires : goal.second-requires
+second-requires g c =
+    let it = g.D.Disk.medium in
+    let self = c.args.self.now in
+    let is = c.in-Up.is in
+    let here = awake_stands it c.requires.scripts self c.requires.machine (ap is_on is) c.requires.stands in
+    (up_stands it c.requires.scripts self c.requires.machine c.in-Up.seated.client is here).stands.tied
 
 pub returns-in-Up : goal.returns-in-Up
 returns-in-Up g c =

@@ -1,6 +1,9 @@
 use Rattle.iot_laptop.proofs.SeatsLaws.{seat_comes, seat_fails, seat_fresh}
 use Rattle.iot_laptop.proofs.seated.SeatedKeeper.start.Goals as goal
 
+pub start-requires : goal.start-requires
+start-requires g c = record { is = c.requires.only.is }
+
 pub returns-in-Ok-clause-comes : goal.returns-in-Ok-clause-comes
 returns-in-Ok-clause-comes g c =
     seat_comes g.D.Disk.medium c.args.disk c.args.place c.in-Ok.client c.in-Ok.ensures.only c.in-Ok.ensures.stands c.in-Ok.ensures.tied
@@ -8,7 +11,8 @@ returns-in-Ok-clause-comes g c =
 
 pub returns-in-Err-clause-fails : goal.returns-in-Err-clause-fails
 returns-in-Err-clause-fails g c =
-    seat_fails g.D.Disk.medium c.args.disk c.args.place c.in-Err.refused.1 c.in-Err.refused.0 c.in-Err.ensures.never
+    seat_fails g.D.Disk.medium c.args.disk c.args.place c.in-Err.refused.1 c.in-Err.refused.0 c.requires.can
+    c.in-Err.ensures.never
     c.in-Err.ensures.cause
     c.in-Err.ensures.images c.in-Err.ensures.arms
 

@@ -1,6 +1,12 @@
-use Rattle.std.proofs.lemmas.Result.{on_ok_weaker}
+use Rattle.std.proofs.Common.{ap}
+use Rattle.std.proofs.lemmas.Result.{IfErr-weaker, on_ok_weaker}
+use Rattle.iot_node.specs.Posts as posts
+use Rattle.iot_server_node.specs.Disks.{on_both}
+use Rattle.iot_server_node.specs.Keepers.{disks_in}
+use Rattle.iot_server_node.specs.Servers.{disk_of}
 use Rattle.iot_server_node.specs.Prelude.{kept_text}
-use Rattle.iot_server_node.proofs.ServersLaws.{with_known, known_armed, answered_same}
+use Rattle.iot_server_node.proofs.BackupLaws.{beside_same}
+use Rattle.iot_server_node.proofs.ServersLaws.{with_known, keeps_same, known_armed, answered_same}
 use Rattle.iot_server_node.proofs.server.ServerNode.arm.Goals as goal
 
 pub returns-clause-step : goal.returns-clause-step
@@ -10,3 +16,15 @@ returns-clause-step g c =
     with_known g.D.Disk.medium names (step 0 (kept_text names)) (known_armed names c.args.calls c.args.pick)
     (λ had. answered_same c.args.self.now.post c.arm.new.self n c.arm.ensures.live had))
     c.arm.ensures.step
+
+pub returns-clause-beside : goal.returns-clause-beside
+returns-clause-beside g c =
+    beside_same g.D.Disk.medium c.args.self.now (record { post = c.arm.new.self }) (c.arm.ensures.beside 0)
+
+pub returns-clause-disk : goal.returns-clause-disk
+returns-clause-disk g c =
+    IfErr-weaker c.arm.result _ _
+    (λ _ same.
+    keeps_same (on_both g.D.Disk.medium) (disk_of c.args.self.now) (disk_of (record { post = c.arm.new.self })) c.requires
+    (ap (posts.disk_of disks_in) same))
+    c.arm.ensures.same

@@ -1,4 +1,6 @@
-use Rattle.iot_server_node.proofs.Common.{disk_of}
+use Rattle.iot_server_node.proofs.Common.{ap, option_map, disk_of}
+use Rattle.iot_server_node.specs.Disks.{on_both, sides_of}
+use Rattle.iot_server_node.proofs.BackupLaws.{beside_same}
 use Rattle.iot_server_node.specs.Prelude.{kept_text}
 use Rattle.iot_server_node.proofs.KeepersLaws.{if_ok_both}
 use Rattle.iot_server_node.proofs.ServersLaws.{with_known, known_crash, answered_off, keeps_same}
@@ -13,7 +15,12 @@ returns-clause-step g c =
 
 pub returns-clause-disk : goal.returns-clause-disk
 returns-clause-disk g c =
-    keeps_same g.D.Disk.medium (disk_of c.args.self.now) (disk_of (record { post = c.crash.new.self })) c.requires (c.crash.ensures.disk 0)
+    keeps_same (on_both g.D.Disk.medium) (disk_of c.args.self.now) (disk_of (record { post = c.crash.new.self })) c.requires (c.crash.ensures.disk 0)
 
 pub returns-clause-same : goal.returns-clause-same
 returns-clause-same g c = c.crash.ensures.disk 0
+
+pub returns-clause-beside : goal.returns-clause-beside
+returns-clause-beside g c =
+    beside_same g.D.Disk.medium c.args.self.now (record { post = c.crash.new.self })
+    (ap (option_map (sides_of g.D.Disk.medium)) (c.crash.ensures.disk 0))

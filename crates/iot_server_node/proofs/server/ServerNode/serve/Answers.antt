@@ -3,6 +3,7 @@ use Rattle.iot_server_node.proofs.KeepersLaws.{always_err, few_commits}
 use Rattle.iot_server_node.proofs.ServingLaws.{lends, stays_stamped, lends_always, lends_lasts, judges, judges_stopped, judges_lasts}
 use Rattle.iot_server_node.proofs.ServersLaws.{is_live, answered_off}
 use Rattle.iot_server_node.specs.Servers.{count_of}
+use Rattle.iot_server_node.proofs.BackupLaws.{beside_disk}
 use Rattle.iot_server_node.proofs.BeginningLaws.{handled_records, refused_records}
 use Rattle.iot_server_node.proofs.server.ServerNode.serve.Goals as goal
 
@@ -66,3 +67,11 @@ pub returns-in-Ok-clause-stamps : goal.returns-in-Ok-clause-stamps
 returns-in-Ok-clause-stamps g c client held errand asks =
     stays_stamped g.D.Disk.medium c.args.message.now client held errand asks (record { reply = c.in-Ok.reply; committed = c.committed_by.result })
     c.in-Ok.ensures.handled
+
+pub returns-in_ok-give_up-in-Err-clause-beside : goal.returns-in_ok-give_up-in-Err-clause-beside
+returns-in_ok-give_up-in-Err-clause-beside g c =
+    beside_disk g.D.Disk.medium c.args.self.now c.handle.new.self c.give_up.new.self c.give_up.ensures.disk c.handle.ensures.beside
+
+pub returns-in_err-give_up-in-Err-clause-beside : goal.returns-in_err-give_up-in-Err-clause-beside
+returns-in_err-give_up-in-Err-clause-beside g c =
+    beside_disk g.D.Disk.medium c.args.self.now c.handle.new.self c.give_up.new.self c.give_up.ensures.disk c.handle.ensures.beside

@@ -6,7 +6,7 @@ use Rattle.iot_world.proofs.EventsLaws.{then_ok}
 use Rattle.iot_world.proofs.world.World.declare_client.Goals as goal
 
 pub returns-in_err-reserve-clause-arms : goal.returns-in_err-reserve-clause-arms
-returns-in_err-reserve-clause-arms g c = arms_same _ _ _ _ c.reserve.ensures.items
+returns-in_err-reserve-clause-arms g c = arms_same _ _ c.requires.stands _ _ c.reserve.ensures.items
 
 pub returns : goal.returns
 returns g c =
@@ -21,5 +21,5 @@ returns g c =
           (ap stamps_by it.unopened.down) _ _);
       declared = joins g.D.Disk.medium c.args.name.now _ _ _ _ was _ push taken.items c.start-started.result;
       disks = joined_keeps _ c.args.name.now _ _ _ _ was _ push taken.items it.disk kept.disk taken.len taken.capacity;
-      arms = joined_arms _ c.args.name.now _ _ _ _ was _ push taken.items it.disk kept.disk;
+      arms = joined_arms _ c.args.name.now _ _ _ _ was _ push taken.items it.disk kept.disk c.requires.stands;
     }

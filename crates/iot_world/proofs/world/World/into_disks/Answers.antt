@@ -1,4 +1,8 @@
-use Rattle.iot_world.proofs.DisksLaws.{left_one, last_has}
+use Rattle.iot_world.proofs.Common.{List, ap, rules, sym, ◌∙◌}
+use Rattle.iot_world.specs.Prelude.{disk_of}
+use Rattle.iot_world.specs.World.{with_server}
+use Rattle.iot_world.proofs.DisksLaws.{left_one, last_has, all_left}
+use Rattle.iot_world.proofs.PlacesLaws.{other_there, server_list}
 use Rattle.iot_world.proofs.world.World.into_disks.Goals as goal
 
 pub into_disk-requires : goal.into_disk-requires
@@ -9,3 +13,12 @@ pub laptops-preserved : goal.laptops-preserved
 laptops-preserved g c =
     left_one _ _ _ _ _ _ _ _ _ _ _ _ c.laptops.invariant c.in-Some.ensures.items
     c.into_disk.ensures c.put_first.ensures.items c.put_first.ensures.len c.put_first.ensures.capacity
+
+pub into_disks-first-requires : goal.into_disks-first-requires
+into_disks-first-requires g c = other_there g.D.Disk.medium c.args.self.server c.requires.server
+
+pub returns : goal.returns
+returns g c =
+    let own = c.args.self.server in
+    c.put_ends.ensures ∙ sym (server_list g.D.Disk.medium own _ _ _ c.into_disks-first.ensures _)
+    ∙ ap (λ (disks : List _). with_server (disk_of own) disks) (all_left _ _ _ _ _ _ (search rules) c.laptops.invariant)

@@ -1,9 +1,0 @@
-pub mod Alone
-pub mod Causes
-pub mod Damage
-pub mod Durable
-pub mod Faults
-pub mod Lending
-pub mod Pair
-pub mod Rules
-pub mod Standing

@@ -1,0 +1,8 @@
+use Rattle.iot_server_node.proofs.DisksLaws.{reads_both}
+use Rattle.iot_server_node.proofs.KeepersLaws.{still_keeps}
+use Rattle.iot_server_node.proofs.keeper.ServerKeeper.arm_other.Goals as goal
+
+pub returns-clause-stands : goal.returns-clause-stands
+returns-clause-stands g c n commits is =
+    let both = reads_both g.D.Disk.medium c.args.self.now.server c.arm.new.self c.is_none-second.result c.arm.ensures.reads c.arm.ensures.other in
+    still_keeps is c.arm.new.self _ (c.arm.ensures.synced is.synced) both.0 both.1 c.arm.ensures.state c.arm.ensures.count

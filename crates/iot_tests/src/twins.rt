@@ -1,0 +1,175 @@
+//! Two disks: what is on both after each call, and what a stop at each device call of either leaves.
+ghost use Rattle.std.specs.Prelude.{◌≡◌, ℕ, List, IfOk, OnOk};
+ghost use Rattle.iot_disk.specs.Disk.{Only};
+ghost use Rattle.iot_backup.specs.Parts.{IsThere, If};
+ghost use Rattle.iot_backup.specs.Pairs.{EachPair};
+ghost use Rattle.iot_slots.specs.Slots.{disk_of, header_of};
+ghost use Rattle.iot_backup.specs.Start.{MayBeBehind};
+ghost use Rattle.iot_backup.specs.Twin.{IsSynced, first_of, second_of};
+
+use iot_backup::{Twin, TwinFault};
+use iot_disk::{Disk, JournalFault, MemDisk, Pick, StartFault};
+use iot_slots::Slots;
+use std::alloc::Global;
+use std::test::Fail;
+
+const HEADER: [u8; 8] = *b"IOTSLOT1";
+
+const PICKS: [Pick; 3] = [Pick::Old, Pick::New, Pick::Fill(165)];
+
+/// The length of a disk's body, the number of its records, and how many were ever appended to it.
+fn found(alloc: Global, mut disk: MemDisk) -> Result<(usize, usize, u64), StartFault> {
+    disk.restart();
+    match Slots::start(alloc, disk, HEADER) {
+        Ok((slots, started)) => {
+            let records = started.records.len();
+            Ok((started.body.into_vec().len(), records, slots.count()))
+        }
+        Err((_, fault)) => Err(fault),
+    }
+}
+
+/// A twin over two disks.
+fn started<D: Disk + Drop>(
+    alloc: Global,
+    first: D,
+    second: D,
+    header: [u8; 8],
+) -> Result<Twin<D>, TwinFault>
+    requires first { Only (D.medium.reads first) (D.medium.may_leave first) }
+    requires second { Only (D.medium.reads second) (D.medium.may_leave second) }
+    requires behind { (body : List ℕ) → MayBeBehind header body (D.medium.reads first) (D.medium.reads second) }
+    ensures synced { IfOk result (λ twin. IsSynced D.medium twin) }
+    ensures there { IfOk result (λ twin. IsThere (second_of twin)) }
+    ensures header { IfOk result (λ twin. header_of (first_of twin) ≡ header) }
+{
+    match Twin::start(alloc, first, second, header, b"ab") {
+        Ok((twin, _)) => Ok(twin),
+        Err((_, _, fault)) => Err(fault),
+    }
+}
+
+/// Appends a record, if no checkpoint is due on either disk.
+fn append<D: Disk>(twin: &mut Twin<D>, body: &[u8]) -> Result<(), JournalFault>
+    requires { IsSynced D.medium twin.old }
+{
+    if twin.due(false, body.len() as u64) || twin.due(true, body.len() as u64) {
+        return Err(JournalFault::NoMemory);
+    }
+    twin.append(body)
+}
+
+/// A twin over two disks, after a restart of both.
+fn restarted<D: Disk + Drop>(
+    alloc: Global,
+    mut first: D,
+    mut second: D,
+    header: [u8; 8],
+) -> Result<Twin<D>, TwinFault>
+    requires behind { (body : List ℕ) → EachPair (MayBeBehind header body) (D.medium.may_leave first) (D.medium.may_leave second) }
+{
+    first.restart();
+    second.restart();
+    started(alloc, first, second, header)
+}
+
+/// The disks of a twin after an append that a stop may end, and after a start that makes up for it.
+fn made_up<D: Disk + Drop>(
+    alloc: Global,
+    mut twin: Twin<D>,
+    header: [u8; 8],
+) -> Result<(D, Option<D>), TwinFault>
+    requires synced { IsSynced D.medium twin }
+    requires header { header_of (first_of twin) ≡ header }
+{
+    if twin.due(false, 3) || twin.due(true, 3) {
+        return Err(TwinFault::Disk(StartFault::NoMemory));
+    }
+    let _stopped = twin.append(b"new");
+    let (first, second) = twin.into_disks();
+    let Some(second) = second else {
+        return Ok((first, None));
+    };
+    Ok(restarted(alloc, first, second, header)?.into_disks())
+}
+
+/// What both disks of a twin encode.
+fn both(
+    alloc: Global,
+    disks: (MemDisk, Option<MemDisk>),
+) -> Result<[(usize, usize, u64); 2], StartFault> {
+    let (first, second) = disks;
+    let Some(second) = second else {
+        return Err(StartFault::NoMemory);
+    };
+    Ok([found(alloc, first)?, found(alloc, second)?])
+}
+
+#[test]
+fn a_record_is_on_both_disks(rt: HostRuntime) -> Result<(), Fail> {
+    let alloc = rt.alloc();
+    let mut twin = started(alloc, MemDisk::new(alloc), MemDisk::new(alloc), HEADER)?;
+    append(&mut twin, b"new")?;
+    assert_eq!(rt; twin.count(), 1);
+    assert_eq!(rt; both(alloc, twin.into_disks())?, [(2, 1, 1), (2, 1, 1)]);
+    Ok(())
+}
+
+#[test]
+fn each_disk_has_checkpoints_of_its_own(rt: HostRuntime) -> Result<(), Fail> {
+    let alloc = rt.alloc();
+    let mut twin = started(alloc, MemDisk::new(alloc), MemDisk::new(alloc), HEADER)?;
+    twin.checkpoint(true, b"abcd")?;
+    append(&mut twin, b"new")?;
+    assert_eq!(rt; both(alloc, twin.into_disks())?, [(2, 1, 1), (4, 1, 1)]);
+    Ok(())
+}
+
+#[test]
+fn a_stop_on_the_second_disk_loses_nothing(rt: HostRuntime) -> Result<(), Fail> {
+    let alloc = rt.alloc();
+    for calls in 1..5 {
+        for pick in PICKS {
+            let mut twin = started(alloc, MemDisk::new(alloc), MemDisk::new(alloc), HEADER)?;
+            twin.arm(true, calls, pick);
+            let disks = made_up(alloc, twin, HEADER)?;
+            assert_eq!(rt; both(alloc, disks)?, [(2, 1, 1), (2, 1, 1)], "call {calls}");
+        }
+    }
+    Ok(())
+}
+
+#[test]
+fn a_stop_on_the_first_disk_leaves_both_alike(rt: HostRuntime) -> Result<(), Fail> {
+    let alloc = rt.alloc();
+    for calls in 1..5 {
+        for pick in PICKS {
+            let mut twin = started(alloc, MemDisk::new(alloc), MemDisk::new(alloc), HEADER)?;
+            twin.arm(false, calls, pick);
+            let [first, second] = both(alloc, made_up(alloc, twin, HEADER)?)?;
+            assert_eq!(rt; first, second, "call {calls}");
+        }
+    }
+    Ok(())
+}
+
+#[test]
+fn the_second_disk_goes_on_alone(rt: HostRuntime) -> Result<(), Fail> {
+    let alloc = rt.alloc();
+    let mut twin = started(alloc, MemDisk::new(alloc), MemDisk::new(alloc), HEADER)?;
+    append(&mut twin, b"new")?;
+    let (_first, second) = twin.into_disks();
+    let Some(mut second) = second else {
+        return Err(Fail::from(StartFault::NoMemory));
+    };
+    second.restart();
+    let mut alone = match Twin::alone(alloc, second, HEADER, b"ab") {
+        Ok((alone, _)) => alone,
+        Err((_, fault)) => return Err(Fail::from(fault)),
+    };
+    append(&mut alone, b"newer")?;
+    let (disk, second) = alone.into_disks();
+    assert!(rt; second.is_none());
+    assert_eq!(rt; found(alloc, disk)?, (2, 2, 2));
+    Ok(())
+}
