@@ -5,13 +5,14 @@ from xml.sax.saxutils import escape
 
 from transcript import kind
 
-# Lengths are in pixels. A line of text, a letter of it, one of a lane's name, one of a number at the left, the way from lane to lane, and
-# that from one waiting transaction to the next.
+# Lengths are in pixels. A line of text, a letter of it, one of a lane's name, one of a number at the left, the way from lane to lane, that
+# from the server to its backup, and that from one waiting transaction to the next.
 LINE = 16
 CHAR = 7.3
 NAME_CHAR = 7.9
 NUMBER_CHAR = 6.1
 GAP = 130
+BACKUP_GAP = 90
 SLOT = 17
 EDGE = 16
 # How many lines of a script or of what an event prints are shown, and how many letters of a line.
@@ -132,7 +133,7 @@ def name_width(name):
 
 def arrival(row, name):
     """How far below the top of its row something happens to a node: where the request arrives at the server, or the reply at a client."""
-    return (7 if name == 'server' else 14) if row.exchange else 0
+    return (7 if name in ('server', 'backup') else 14) if row.exchange else 0
 
 
 def commit_reach(number):
@@ -141,7 +142,7 @@ def commit_reach(number):
 
 def reach(row, name):
     """How far from a node's lane its arrows of this row end: at the sign that stands there, if there is one."""
-    signs = {'crash': lambda _: 10, 'conflict': lambda _: 9, 'commit': commit_reach}
+    signs = {'crash': lambda _: 10, 'conflict': lambda _: 9, 'commit': commit_reach, 'restart': lambda _: 7}
     return max((signs[what](words) for what, node, words in row.marks if node == name and what in signs), default=3)
 
 
@@ -155,10 +156,12 @@ def stretches(values):
 
 
 class Picture:
-    """The picture of a day with this title. Scripts may be left out, but for their names."""
+    """The picture of a day with this title. Scripts may be left out, but for their names. The server has a second lane, that of its backup,
+    on a day that names it."""
 
     def __init__(self, day, title, scripts=True):
         self.rows, self.title, self.parts = day.rows, title, []
+        self.middle, self.last_home = ['server', 'backup'] if day.has_backup else ['server'], day.home
         self.asked = [shortened(row.asked if scripts else name_of_script(row.asked)) for row in day.rows]
         half = (len(day.clients) + 1) // 2
         self.left, self.right = list(day.clients)[:half], list(day.clients)[half:]
@@ -183,7 +186,7 @@ class Picture:
 
     def description(self):
         """A line that says what is drawn."""
-        nodes = ', '.join(['the server', *self.left, *self.right])
+        nodes = ', '.join(['the server', *(['its backup'] if 'backup' in self.middle else []), *self.left, *self.right])
         return f'A lane for each node ({nodes}), time downwards: on the left what was asked, on the right what was printed.'
 
     def put(self, *parts):
@@ -195,11 +198,12 @@ class Picture:
         """The server stands in the middle, and what waits at a client on the side away from it. No name gets into another one."""
         self.asked_at = EDGE + len(str(max((row.number for row in self.rows), default=0))) * NUMBER_CHAR + 8
         self.asked_to = self.asked_at + max(longest(self.asked), 34) * CHAR
-        names = [*self.left, 'server', *self.right]
+        names = [*self.left, *self.middle, *self.right]
         self.x = {names[0]: self.asked_to + max(40 + self.room(names[0]), name_width(names[0]) / 2 + 14)}
         for name, other in zip(names, names[1:]):
             between = self.room(other) if other in self.left else self.room(name) if name in self.right else 0
-            self.x[other] = self.x[name] + max(GAP + between, (name_width(name) + name_width(other)) / 2 + 14)
+            gap = BACKUP_GAP if other == 'backup' else GAP + between
+            self.x[other] = self.x[name] + max(gap, (name_width(name) + name_width(other)) / 2 + 14)
         self.said_at = self.x[names[-1]] + max(46 + self.room(names[-1]), name_width(names[-1]) / 2 + 14)
         said = longest(shortened(row.said) for row in self.rows)
         self.width = max(self.said_at + said * CHAR, sum(KEY_WIDTHS)) + EDGE
@@ -223,6 +227,10 @@ class Picture:
 
     def top(self, index):
         return self.tops[index] + 12
+
+    def place(self, row, name):
+        """Where a node is in this row."""
+        return self.x[row.home if name == 'server' else name]
 
     def turn(self, name, index):
         """Where a lane gets the look that it has after a row; behind the last row it is where the rows end."""
@@ -262,12 +270,13 @@ class Picture:
                 self.draw_stop(x, self.turn(name, start), self.turn(name, end))
         for number in dict.fromkeys(number for lane in lanes if lane for number in lane[2]):
             self.draw_waiting(name, number, [lane[2].get(number) if lane else None for lane in lanes])
-        self.draw_name(name, 10)
-        self.draw_name(name, self.foot)
+        self.draw_name(name, 10, name == 'server')
+        self.draw_name(name, self.foot, name == self.last_home)
 
-    def draw_name(self, name, y):
+    def draw_name(self, name, y, is_home):
+        """The name of a lane, dark where the server is."""
         x = self.x[name]
-        look, ink = ('lane lane-line', 'ground name') if name == 'server' else ('ground lane-line', 'ink name')
+        look, ink = ('lane lane-line', 'ground name') if is_home else ('ground lane-line', 'ink name')
         self.put(box(x, y, name_width(name), 24, look, stroke_width=1.5), text(x, y + 17, name, ink))
 
     def draw_state(self, x, y, to_y, state):
@@ -275,6 +284,10 @@ class Picture:
             self.put(line(x, y, x, to_y, 'lane', 3))
         elif state == 'away':
             self.put(box(x, y, 24, to_y - y, 'pale'), line(x, y, x, to_y, 'grey', 2.5, stroke_dasharray='5 4'))
+        elif state == 'copy':
+            self.put(line(x, y, x, to_y, 'grey', 1.5))
+        elif state == 'given up':
+            self.put(line(x, y, x, to_y, 'pale', 3))
         else:
             self.put(box(x, y, 24, to_y - y, 'fault'))
 
@@ -307,9 +320,9 @@ class Picture:
         if row.exchange:
             self.draw_exchange(top, row, *row.exchange)
         elif row.node:
-            self.put(circle(self.x[row.node], top, 4, 'lane'))
+            self.put(circle(self.place(row, row.node), top, 4, 'lane'))
         for what, node, words in row.marks:
-            x, y = self.x[node], top + arrival(row, node)
+            x, y = self.place(row, node), top + arrival(row, node)
             if what == 'given up':
                 self.put(cross(self.slot(node, words), y, 5))
             elif what == 'commit':
@@ -318,6 +331,8 @@ class Picture:
                 self.draw_conflict(x, y)
             elif what == 'crash':
                 self.put(circle(x, y, 9, 'ground'), cross(x, y, 6))
+            elif what == 'promote':
+                self.put(arrow(self.x['server'] + 3, y, x - reach(row, node), y))
             elif what == 'restart':
                 self.put(circle(x, y, 6, 'ground green-line', stroke_width=2.5))
 
@@ -325,9 +340,9 @@ class Picture:
         side = 1 if name in self.left else -1
         start = self.x[name] + 3 * side
         back = self.x[name] + reach(row, name) * side
-        server = self.x['server'] - reach(row, 'server') * side
-        nearest = self.left[-1] if name in self.left else self.right[0]
-        label = (self.x[nearest] + self.x['server']) / 2
+        server = self.place(row, 'server') - reach(row, 'server') * side
+        nearest, middle = (self.left[-1], self.middle[0]) if name in self.left else (self.right[0], self.middle[-1])
+        label = (self.x[nearest] + self.x[middle]) / 2
         self.put(text(label, y - 1, what, 'grey small'))
         if passage == 'request':
             self.put(broken(start, y, label, y + 4))

@@ -11,9 +11,11 @@ LINE_LIMIT = 4096
 CLIENT_LIMIT, SCRIPT_LIMIT, PROFILE_LIMIT, DEPTH_LIMIT, WISH_LIMIT = 8, 256, 64, 16, 256
 LIMITS = {'k': 100_000, 'i': 1_000_000, 'K': 1_000_000, 'T': 1_000_000, 'LIMIT': 1_000_000, 'PRIORITY': 1_000}
 OPTIONS = 'reexec, resolver S, abort or manual'
-SPELLED = (('LOSS', 'request'), ('LOSS', 'reply'), ('NODE', 'server'), ('NODE', 'C'), ('PROFILE', 'N'))
+SPELLED = (('LOSS', 'request'), ('LOSS', 'reply'), ('NODE', 'server'), ('NODE', 'C'), ('PROFILE', 'N'),
+           ('DISK', 'server'), ('DISK', 'backup'), ('DISK', 'C'))
 
-# The forms of each event. Capital letters are slots: N a new name, C a client, S a script, NODE a client or the server.
+# The forms of each event. Capital letters are slots: N a new name, C a client, S a script, NODE a client or the server, DISK one of them
+# or the server's backup.
 FORMS = {
     'client': ['client N'],
     'script': ['script N {'],
@@ -36,17 +38,23 @@ FORMS = {
     'queue': ['queue C'],
     'reads': ['reads C i'],
     'log': ['log'],
-    'stop': ['stop NODE K PICK'],
+    'stop': ['stop DISK K PICK'],
     'crash': ['crash NODE'],
     'restart': ['restart NODE'],
+    'promote': ['promote'],
 }
 
 # The form of a line in a profile, which may end before its last word, and how the pages spell it.
 WISH = ['PRIORITY', 'P', 'below']
 WISH_SHOWN = '`PRIORITY P` or `PRIORITY P below`'
 
-# What declares the name that belongs in a slot.
-DECLARING = {'C': 'client', 'NODE': 'client', 'S': 'script', 'PROFILE': 'profile'}
+# What declares the name that belongs in a slot, and the names that fit there though no line declares them.
+DECLARING = {'C': 'client', 'NODE': 'client', 'DISK': 'client', 'S': 'script', 'PROFILE': 'profile'}
+UNDECLARED = {'NODE': ['server'], 'DISK': ['server', 'backup']}
+
+# What the names are that no client may have, and what takes them.
+TAKEN = {'server': ('the server', 'only `show`, `stop`, `crash` and `restart` take it'),
+         'backup': ("the server's backup", 'only `stop` takes it')}
 
 
 @dataclass
@@ -275,36 +283,36 @@ def bad_line(script, number, line):
 
 
 def name_slots(words):
-    """Each word that has to be declared, with its place and with what declares it."""
+    """Each word that has to be declared, with its place, with what declares it, and with the names that fit there besides."""
     form, _ = form_of(words)
     for place, slot in enumerate(form):
-        kind = DECLARING.get(slot)
-        if kind and not (slot == 'NODE' and words[place] == 'server'):
-            yield place, kind, words[place]
+        besides = UNDECLARED.get(slot, [])
+        if slot in DECLARING and words[place] not in besides:
+            yield place, DECLARING[slot], words[place], besides
 
 
 def unknown_name(script, number, line):
-    for place, kind, name in name_slots(words_of(line)):
+    for place, kind, name, besides in name_slots(words_of(line)):
         known = script.declared[kind]
         if name in known:
             continue
         others = [other for other, names in script.declared.items() if name in names]
-        if name == 'server':
-            reason = '`server` is no client: only `show`, `stop`, `crash` and `restart` take it'
+        if kind == 'client' and name in TAKEN:
+            reason = f'`{name}` is no client: {TAKEN[name][1]}'
         elif script.later(kind, name, number):
             reason = f'no {kind} `{name}` yet: line {script.later(kind, name, number)} declares it'
         elif others:
             reason = f'no {kind} `{name}`: that is a {others[0]}'
         else:
-            reason = f'no {kind} `{name}`{near(name, known, ";")} declared: {", ".join(known) or "none"}'
+            reason = f'no {kind} `{name}`{near(name, [*known, *besides], ";")} declared: {", ".join(known) or "none"}'
         return column_of(line, place), reason
     return None
 
 
 def named_twice(script, number, line):
     kind, name = words_of(line)[:2]
-    if name == 'server' and kind == 'client':
-        return column_of(line, 1), '`server` is the server: no client has this name'
+    if kind == 'client' and name in TAKEN:
+        return column_of(line, 1), f'`{name}` is {TAKEN[name][0]}: no client has this name'
     return column_of(line, 1), f'the {kind} `{name}` is declared by line {script.declared[kind][name]} already'
 
 

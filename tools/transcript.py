@@ -5,6 +5,8 @@ from dataclasses import dataclass, field
 from typing import Callable
 
 REFUSALS = {'down', 'up', 'busy', 'pending', 'idle', 'nothing', 'not at end', 'not manual'}
+# What the server's backup looks like while the server keeps a copy there, and the server's first disk after the backup was promoted.
+COPY, GIVEN_UP = ('copy', {}, {}), ('given up', {}, {})
 NEVER_REFUSED = {'client', 'connect', 'disconnect', 'lose', 'stop'}
 
 
@@ -103,13 +105,17 @@ class Node:
 
 @dataclass
 class Row:
-    """One moment of the day: what was asked, on which line, what was printed, and what there is to be seen of it."""
+    """One moment of the day: what was asked, on which line, what was printed, and what there is to be seen of it.
+
+    The server is at its home: `server`, or `backup` since that was promoted.
+    """
 
     number: int = 0
     asked: list = field(default_factory=list)
     said: list = field(default_factory=list)
     caption: str = ''
     node: str = ''
+    home: str = 'server'
     exchange: tuple = ()
     marks: list = field(default_factory=list)
     lanes: dict = field(default_factory=dict)
@@ -141,6 +147,11 @@ def read_events(text):
     return events
 
 
+def names_backup(event):
+    """Whether the event speaks of the server's backup."""
+    return event.lines[0].split()[:2] == ['stop', 'backup'] or event.lines[0].split() == ['promote']
+
+
 def kind(line):
     """The word that says what a printed line is about: mostly its first one."""
     if line.startswith('|'):
@@ -155,6 +166,7 @@ class Day:
     def __init__(self, events, lines):
         self.lines, self.at = lines, 0
         self.server, self.clients, self.rows = Node('server'), {}, []
+        self.has_backup, self.home = any(map(names_backup, events)), 'server'
         self.listed = set()
         if self.next() == 'server stopped':
             self.rows.append(Row(node='server'))
@@ -214,8 +226,12 @@ class Day:
 
     def close(self):
         """The last row is over, and shows the nodes as they are now."""
-        nodes = [self.server, *self.clients.values()]
-        self.rows[-1].lanes = {node.name: node.snapshot() for node in nodes}
+        lanes = {node.name: node.snapshot() for node in [self.server, *self.clients.values()]}
+        if self.home == 'backup':
+            lanes.update(server=GIVEN_UP, backup=lanes['server'])
+        elif self.has_backup:
+            lanes['backup'] = COPY
+        self.rows[-1].lanes, self.rows[-1].home = lanes, self.home
 
     # ---- events
 
@@ -227,7 +243,7 @@ class Day:
         elif words[0] in ('script', 'profile'):
             self.rows.append(Row(event.number, event.lines))
         else:
-            node = words[1] if len(words) > 1 and words[0] != 'client' else ''
+            node = 'server' if words == ['promote'] else words[1] if len(words) > 1 and words[0] != 'client' else ''
             self.rows.append(Row(event.number, event.lines, node=node))
             method = getattr(self, 'on_' + words[0], None)
             if method is None:
@@ -270,14 +286,28 @@ class Day:
         self.take('crash ')
 
     def on_restart(self, node, _):
+        if self.comes_back(node, f'restart {node.name}'):
+            self.cut(node)
+
+    def on_promote(self, server, _):
+        self.home = 'backup'
+        self.mark('promote', server.name)
+        self.comes_back(server, 'promote')
+
+    def comes_back(self, node, line):
+        """Whether it comes back, which this line says, and does not stop again. What was in doubt is kept or lost then."""
         if self.next() == f'{node.name} stopped':
             self.stop(node, node.doubt)
-            return
+            return False
         node.alive = True
         self.mark('restart', node.name)
-        word = self.take(f'restart {node.name}').split()[-1]
+        word = self.take(line).split()[-1]
         doubt, node.doubt = node.doubt, nothing_more
         doubt(word == 'kept')
+        return True
+
+    def cut(self, node):
+        """What ran on a client that has come back waits."""
         for run in list(node.running):
             self.halts(node, lambda kept, run=run: kept and node.wait(run))
             self.take(f'cut {node.name}.{run.number} ')
