@@ -259,7 +259,7 @@ class Picture:
     def draw_lane(self, name, lanes):
         x = self.x[name]
         declared = next(index for index, lane in enumerate(lanes) if lane)
-        self.put(line(x, 34, x, self.turn(name, declared), 'pale' if declared else 'lane', 3))
+        self.draw_state(x, 34, self.turn(name, declared), 'none' if declared else 'copy' if name == 'backup' else 'up')
         states = list(stretches([lane and lane[0] for lane in lanes]))
         for state, start, end in states:
             self.draw_state(x, self.turn(name, start), self.turn(name, end) if end < len(lanes) else self.foot, state)
@@ -286,7 +286,7 @@ class Picture:
             self.put(box(x, y, 24, to_y - y, 'pale'), line(x, y, x, to_y, 'grey', 2.5, stroke_dasharray='5 4'))
         elif state == 'copy':
             self.put(line(x, y, x, to_y, 'grey', 1.5))
-        elif state == 'given up':
+        elif state == 'none':
             self.put(line(x, y, x, to_y, 'pale', 3))
         else:
             self.put(box(x, y, 24, to_y - y, 'fault'))

@@ -6,7 +6,7 @@ from typing import Callable
 
 REFUSALS = {'down', 'up', 'busy', 'pending', 'idle', 'nothing', 'not at end', 'not manual'}
 # What the server's backup looks like while the server keeps a copy there, and the server's first disk after the backup was promoted.
-COPY, GIVEN_UP = ('copy', {}, {}), ('given up', {}, {})
+COPY, GIVEN_UP = ('copy', {}, {}), ('none', {}, {})
 NEVER_REFUSED = {'client', 'connect', 'disconnect', 'lose', 'stop'}
 
 
