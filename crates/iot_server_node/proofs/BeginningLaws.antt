@@ -1,22 +1,18 @@
 -- From which states each image of the server's disks goes on.
-use Rattle.iot_server_node.proofs.Common.{◌≡◌, ◌⊎◌, ℕ, List, [], ◌∷◌, ◌++◌, Option, Some, None, option_map, inl, inr, refl, sym, ap, subst}
-use Rattle.iot_server_node.proofs.Common.{◌∙◌}
-use Rattle.iot_server_node.proofs.Common.{lists, Handles, Refuses, IsImage, state_of, disk_of, ServerStands}
+use Rattle.iot_server_node.proofs.Common.{◌≡◌, ◌⊎◌, ℕ, List, [], ◌∷◌, ◌++◌, Option, option_map, inl, inr, refl, sym, subst}
+use Rattle.iot_server_node.proofs.Common.{lists, Handles, IsImage, state_of, disk_of, ServerStands}
 use Rattle.iot_slots.specs.declared.version.Version.TheVariants.{Two}
+use Rattle.iot_server_node.specs.Prelude.{PostStands, kept_text}
 use Rattle.iot_server_node.specs.Prelude.{Medium, JournalFault, Commit, Node, Lasts, Post, Server, IsRecord, Leads, StandFor, State, rules}
-use Rattle.iot_server_node.specs.Prelude.{Disks, EachStays, If, Storing, disk_on, images_of, state_on}
-use Rattle.iot_server_node.specs.Prelude.{CanFollow, after_commit, next, Reply, Request, ServerKeeper, ServerNode, Label, IsAnswered}
-use Rattle.iot_server_node.specs.Prelude.{Submits, IsMessage, IsRequest, request_spelling}
-use Rattle.iot_certify.specs.declared.verdict.Verdict.TheVariants.{Holds, Differs}
+use Rattle.iot_server_node.specs.Prelude.{Disks, EachStays, Encoded, If, Storing, disk_on, images_of, state_on}
+use Rattle.iot_server_node.specs.Prelude.{CanFollow, after_commit, next, Request, ServerKeeper, ServerNode, Label, IsAnswered}
+use Rattle.iot_server_node.specs.Prelude.{IsMessage, IsRequest, request_spelling}
 use Rattle.iot_disk.specs.declared.faults.JournalFault.TheVariants as append
 use Rattle.iot_durable.proofs.StandingLaws.{leads_push}
 use Rattle.iot_node.specs.Posts as posts
-use Rattle.iot_server.specs.Replies.{Answers}
 use Rattle.iot_server.specs.Servers as servers
-use Rattle.iot_tree.specs.Profiles.{Profile}
-use Rattle.iot_store.specs.Numbers.{number_in}
-use Rattle.iot_store.proofs.NumbersLaws.{is_new_from}
-use Rattle.iot_store.proofs.PartsLaws.{changes_if}
+use Rattle.iot_store.proofs.PartsLaws.{changes_if, if_mapped}
+use Rattle.iot_server_node.proofs.PairsLaws.{other_left}
 use Rattle.iot_store.proofs.StandingLaws.{second_stays, store_alone, store_stays}
 use Rattle.iot_store.specs.Standing.{EachStandsEither}
 use Rattle.iot_backup.proofs.PairsLaws.{if_so}
@@ -24,11 +20,11 @@ use Rattle.iot_server.specs.Faults.{CutsOff, Stays}
 use Rattle.iot_slots.specs.declared.slots.Slots.{Slots}
 use Rattle.iot_tree.specs.declared.access.Access.{Access}
 use Rattle.iot_wire.specs.declared.requests.Request.TheVariants as requests
-use Rattle.iot_server_node.specs.Disks.{Image, MayLeaveOf, on_both, reads_may_leave}
+use Rattle.iot_server_node.specs.Disks.{Image, on_both, reads_may_leave}
 use Rattle.iot_server_node.specs.Keepers.{RefusesFor, disks_in}
 use Rattle.iot_server_node.specs.Records.{AreImages, AreTurning, GoOnFrom, GoesOnFrom, EachGoesOn, DiskGoesOn, KeepsRecords, LacksCommit}
-use Rattle.iot_server_node.specs.Servers.{IsOneMore, IsOneMoreIfAny, NodeIsKnown, ServerIsSound, KeepsCommits, Lives, Handled, Refused}
-use Rattle.iot_server_node.proofs.ServersLaws.{lasts}
+use Rattle.iot_server_node.specs.Servers.{IsOneMore, IsOneMoreIfAny, NodeIsKnown, ServerIsSound, KeepsCommits, Handled, Refused}
+use Rattle.iot_server_node.proofs.ServersLaws.{lasts, recorded}
 
 -- ---- one image
 
@@ -45,24 +41,20 @@ image_goes_on bytes n commits longer more image =
 -- ---- an image of both disks
 
 both_go_on : (image : Image) (n : ℕ) (commits : List Commit) → AreImages image n commits → GoOnFrom (state_of commits) image
-both_go_on image n commits is = record { disk = own_goes_on image.disk n commits is.disk; backup = by image.backup is.backup }
-  where
-    by : (backup : Option (List ℕ)) → If (λ bytes. IsImage bytes n commits) backup → If (GoesOnFrom (state_of commits)) backup
-    by (Some bytes) is = own_goes_on bytes n commits is
-    by None is = tt
+both_go_on image n commits is = record {
+  disk = own_goes_on image.disk n commits is.disk;
+  backup = if_so _ _ (λ bytes. own_goes_on bytes n commits) image.backup is.backup;
+}
 
 turning_goes_on : (image : Image) (n : ℕ) (commits longer : List Commit) → IsOneMore commits longer → AreTurning image n commits longer
     → GoOnFrom (state_of commits) image
-turning_goes_on image n commits longer more is =
-    record { disk = image_goes_on image.disk (next n) commits longer more is.disk; backup = by image.backup is.backup }
-  where
-    by : (backup : Option (List ℕ)) → If (λ bytes. LacksCommit image.disk bytes n commits longer ⊎ IsImage bytes (next n) longer) backup
-        → If (GoesOnFrom (state_of commits)) backup
-    by (Some bytes) is = elim is [
-      | inl lacks ↦ own_goes_on bytes n commits lacks.image
-      | inr has ↦ image_goes_on bytes (next n) commits longer more has
-    ]
-    by None is = tt
+turning_goes_on image n commits longer more is = record {
+  disk = image_goes_on image.disk (next n) commits longer more is.disk;
+  backup = if_so (λ bytes. LacksCommit image.disk bytes n commits longer ⊎ IsImage bytes (next n) longer) _ (λ bytes it. elim it [
+    | inl lacks ↦ own_goes_on bytes n commits lacks.image
+    | inr has ↦ image_goes_on bytes (next n) commits longer more has
+  ]) image.backup is.backup;
+}
 
 module _ {P : Type 0} (medium : Storing P Image) where
   -- ---- what it keeps
@@ -96,10 +88,11 @@ module _ {D : Type 0} (medium : Medium D) where
 
   -- and still does
   module _ (old new : ServerNode D) where
-    pub commits_last : ((names : List (List ℕ)) (node : Node (List Commit)) (n : ℕ) → ServerStands medium names old node n
-        → Lasts (lists medium) (on_both medium) new.post node) → KeepsCommits medium old new
+    pub commits_last : ((says : List Commit → List Commit → List ℕ) (node : Node (List Commit))
+        → PostStands (lists medium) (on_both medium) says old.post node → Lasts (lists medium) (on_both medium) new.post node)
+        → KeepsCommits medium old new
     commits_last still =
-        record { keeps = λ names node n here. lasts_go_on names new.post node here.known (still names node n here) }
+        record { keeps = λ names node n here. lasts_go_on names new.post node here.known (still (kept_text names) node here.post) }
 
     pub commits_kept : KeepsRecords (on_both medium) (disk_of old) (disk_of new) → KeepsCommits medium old new
     commits_kept it =
@@ -117,16 +110,12 @@ module _ {D : Type 0} (medium : Medium D) (is_image : (disk : D) → medium.may_
       → If (λ s. (j : List ℕ) → images_of medium s j → GoesOnFrom from j) second
       → EachGoesOn (on_both medium) from (record { disk = disk; backup = option_map disk_on second; given_up = given_up })
   each_goes_on from disk second given_up first also = record {
-    each = λ image left. record { disk = first image.disk left.disk; backup = by second image.backup also left.backup };
+    each = λ image left. record {
+      disk = first image.disk left.disk;
+      backup = other_left medium (GoesOnFrom from) (option_map disk_on second) image.backup
+          (if_mapped (λ b. (j : List ℕ) → medium.may_leave b j → GoesOnFrom from j) disk_on second also) left.backup;
+    };
   }
-    where
-      by : (second : Option (Slots D)) (backup : Option (List ℕ))
-          → If (λ s. (j : List ℕ) → images_of medium s j → GoesOnFrom from j) second
-          → MayLeaveOf medium (option_map disk_on second) backup → If (GoesOnFrom from) backup
-      by (Some s) (Some j) also left = also j left
-      by (Some s) None also left = tt
-      by None (Some j) also left = absurd left
-      by None None also left = tt
 
   -- a server on whose disks nothing is under way
   module _ (was now : Server D) (given_up : Option D) (synced : servers.IsSynced medium was) (from : State)
@@ -159,45 +148,28 @@ module _ {D : Type 0} (medium : Medium D) (is_image : (disk : D) → medium.may_
           (record { label = label; access = access; lines = lines }) leads_here.1 is follows;
     }
 
-    -- bytes that stand for the state after a submission
-    submits_on : {asked : List ℕ} {label : Label} {access : Access} {lines : List (List ℕ)} (reply : Reply) {bytes : List ℕ}
-        → IsRecord asked label access lines → (found : Option ℕ) → number_in before.labels label.client label.tid ≡ found
-        → Submits found before label access reply (servers.state_of now) → StandFor bytes (servers.state_of now) → GoesOnFrom from bytes
-    submits_on reply {bytes} is (Some number) listed (replied, made) stands = same_on (subst (StandFor bytes) made stands)
-    submits_on {label = label} {access = access} reply {bytes} is None none (Holds, holds, inl (fit, replied, made)) stands =
-        let follows : CanFollow before label access =
-        record { is_new = is_new_from before.labels label.client label.tid none; holds = holds; fit = fit } in
-        more_on is follows (subst (StandFor bytes) made stands)
-    submits_on reply {bytes} is None none (Holds, holds, inr (misfit, replied, made)) stands =
-        same_on (subst (StandFor bytes) made stands)
-    submits_on reply {bytes} is None none (Differs place answer, judged, (replied, made)) stands =
-        same_on (subst (StandFor bytes) made stands)
-
-    -- a walk changes nothing
-    walked_on : (client : ℕ) (profile : Profile) (limit : ℕ) (reply : Reply) (bytes : List ℕ)
-        → Answers before (requests.Walk client profile limit) reply (servers.state_of now) → StandFor bytes (servers.state_of now)
-        → GoesOnFrom from bytes
-    walked_on client profile limit reply bytes (paths, picks, is, same) stands = same_on (subst (StandFor bytes) same stands)
-
     -- bytes that stand for the state after a request
-    answered_on : {asked reply : List ℕ} (request : Request) {bytes : List ℕ} → IsMessage IsRequest request_spelling asked request
-        → IsAnswered before (servers.encoded_on medium was) request reply (servers.state_of now) (servers.encoded_on medium now)
+    answered_on : {asked reply : List ℕ} {encoded : Encoded} {later : Encoded} (request : Request) {bytes : List ℕ}
+        → IsMessage IsRequest request_spelling asked request
+        → IsAnswered before encoded request reply (servers.state_of now) later
         → StandFor bytes (servers.state_of now) → GoesOnFrom from bytes
     answered_on (requests.Refresh client known want) {bytes} is answered stands =
         same_on (subst (StandFor bytes) answered.answers.1 stands)
     answered_on (requests.Walk client profile limit) {bytes} is answered stands =
-        walked_on client profile limit answered.reply bytes answered.answers stands
-    answered_on (requests.Commit label access lines) is answered stands =
-        submits_on answered.reply is (number_in before.labels label.client label.tid) refl answered.answers stands
+        same_on (subst (StandFor bytes) answered.answers.3 stands)
+    answered_on (requests.Commit label access lines) {bytes} is answered stands = elim (recorded answered) [
+      | inl same ↦ same_on (subst (StandFor bytes) same.0 stands)
+      | inr more ↦ more_on is more.0 (subst (StandFor bytes) more.1 stands)
+    ]
 
     handled_on : {asked reply : List ℕ} → Handles medium asked reply was now → GoesOn
     handled_on it =
         each_goes_on from (servers.disk_of now) (servers.second_of now) given_up (λ i there.
-        answered_on it.handled.request it.handled.is it.handled.answered
+        answered_on it.handled.first.request it.handled.first.is it.handled.first.answered
         ((store_stays medium (servers.store_of now) it.synced).stands.each i there).stands)
         (if_so (λ s. EachStays (images_of medium s) (servers.count_of now) (state_on medium s) (servers.state_of now))
-        (λ s. (j : List ℕ) → images_of medium s j → GoesOnFrom from j)
-        (λ s stays j there. answered_on it.handled.request it.handled.is it.handled.answered (stays.stands.each j there).stands)
+        _ (λ s stays j there. answered_on it.handled.first.request it.handled.first.is it.handled.first.answered
+        (stays.stands.each j there).stands)
         (servers.second_of now) (second_stays medium (servers.store_of now) it.synced))
 
     -- all stays
@@ -205,9 +177,8 @@ module _ {D : Type 0} (medium : Medium D) (is_image : (disk : D) → medium.may_
     stays_on it =
         each_goes_on from (servers.disk_of now) (servers.second_of now) given_up
         (λ i there. same_on (it.first.stands.each i there).stands)
-        (changes_if (λ old new. EachStays (images_of medium new) (servers.count_of was) (state_on medium old) (servers.state_of was))
-        (λ s. (j : List ℕ) → images_of medium s j → GoesOnFrom from j) (λ old new stays j there. same_on (stays.stands.each j there).stands)
-        (servers.second_of was) (servers.second_of now) it.second)
+        (changes_if (λ old new. EachStays (images_of medium new) (servers.count_of was) (state_on medium old) (servers.state_of was)) _
+        (λ old new stays j there. same_on (stays.stands.each j there).stands) (servers.second_of was) (servers.second_of now) it.second)
 
     -- a commit was cut off
     cut_on : {asked : List ℕ}
@@ -217,7 +188,7 @@ module _ {D : Type 0} (medium : Medium D) (is_image : (disk : D) → medium.may_
         elim (it.either.each i there) [ inl same ↦ same_on same.stands | inr more ↦ more_on it.asked it.follows more.stands ])
         (changes_if (λ old new. EachStandsEither (images_of medium new) (servers.count_of was) (servers.state_of was)
         (after_commit (servers.state_of was) it.label it.access))
-        (λ s. (j : List ℕ) → images_of medium s j → GoesOnFrom from j) (λ old new either j there.
+        _ (λ old new either j there.
         elim (either.each j there) [ inl same ↦ same_on same.stands | inr more ↦ more_on it.asked it.follows more.stands ])
         (servers.second_of was) (servers.second_of now) it.second_either)
 
@@ -225,29 +196,17 @@ module _ {D : Type 0} (medium : Medium D) (is_image : (disk : D) → medium.may_
     refused_by asked append.NoMemory lacks = elim lacks.either [ inl kept ↦ stays_on kept | inr cut ↦ cut_on cut ]
     refused_by asked append.Stopped stops = cut_on stops.0
 
-  -- what a live server did keeps them, if this does
-  lives_on : {By : Server D → Server D → Type 0} {old mid : ServerNode D} (new : ServerNode D) → ServerIsSound medium old → Lives By old mid
-      → disk_of new ≡ disk_of mid
-      → ((was now : Server D) (given_up : Option D) → servers.IsSynced medium was → (from : State)
-      → EachGoesOn (on_both medium) from (disks_in (record { server = was; given_up = given_up })) → By was now
-      → EachGoesOn (on_both medium) from (disks_in (record { server = now; given_up = given_up })))
-      → KeepsRecords (on_both medium) (disk_of old) (disk_of new)
-  lives_on {old = old} new sound it same goes_on =
-      subst (λ (disk : Option (Disks D)). KeepsRecords (on_both medium) (disk_of old) disk) (sym (same ∙ ap disk_of it.new_is))
-      (rw it.old_is
-      (record {
-        keeps = λ from had.
-            goes_on it.was it.now it.given_up (subst (ServerIsSound medium) it.old_is sound).stands.post.stands.synced from had it.by;
-      }))
-
   pub handled_records : {asked reply : List ℕ} {old new : ServerNode D} → ServerIsSound medium old → Handled medium asked reply old new
       → KeepsRecords (on_both medium) (disk_of old) (disk_of new)
-  handled_records sound handled =
-      lives_on _ sound handled refl (λ was now given_up synced from had. handled_on was now given_up synced from had)
+  handled_records sound it =
+      let sound = rw it.old_is at sound in
+      rw (it.old_is, it.new_is)
+      (record { keeps = λ from had. handled_on it.was it.now it.given_up sound.stands.post.stands.synced from had it.by })
 
   pub refused_records : (asked : List ℕ) (fault : JournalFault) {old mid : ServerNode D} (new : ServerNode D)
       → ServerIsSound medium old → Refused medium asked fault old mid → disk_of new ≡ disk_of mid
       → KeepsRecords (on_both medium) (disk_of old) (disk_of new)
-  refused_records asked fault new sound refused same =
-      lives_on new sound refused same (λ was now given_up synced from had by.
-      refused_by was now given_up synced from had asked fault by.why)
+  refused_records asked fault new sound it same =
+      let sound = rw it.old_is at sound in
+      rw (same, it.old_is, it.new_is)
+      (record { keeps = λ from had. refused_by it.was it.now it.given_up sound.stands.post.stands.synced from had asked fault it.by.why })

@@ -1,5 +1,5 @@
 -- What the server's disks have counted, by what each has, and how they were armed.
-use Rattle.iot_server_node.proofs.Common.{◌≡◌, ◌⊎◌, ◌+◌, ℕ, List, Option, Some, None, option_map, refl, sym, ap, subst, inl, inr, arith}
+use Rattle.iot_server_node.proofs.Common.{◌⊎◌, ◌≡◌, ◌+◌, ℕ, List, Option, Some, None, option_map, refl, ap, inl, inr, arith}
 use Rattle.iot_count.specs.Counts.{Rose, Stayed}
 use Rattle.iot_disk.specs.declared.faults.StartFault.{StartFault}
 use Rattle.iot_disk.specs.declared.faults.StartFault.TheVariants as start
@@ -8,17 +8,9 @@ use Rattle.iot_machine.specs.Nodes.{Counts}
 use Rattle.iot_node.specs.Keeping.{CountsStart, Failed}
 use Rattle.iot_server.specs.Servers as servers
 use Rattle.iot_slots.specs.declared.slots.Slots.{Slots}
-use Rattle.iot_server_node.specs.Disks.{Sides, faults_in, on_both, other_in, sides_of}
+use Rattle.iot_server_node.specs.Disks.{faults_in, on_both, other_in}
 use Rattle.iot_server_node.specs.Keepers.{KeepsArms, disks_in}
-use Rattle.iot_server_node.specs.Prelude.{Arms, Changes, KeepsDisk, Medium, NoneRose, OneRose, Server, counts_on, disk_on, rules}
-
--- ---- sums
-
-rose_first : (a b c : ℕ) → Rose a b → Rose (a + c) (b + c)
-rose_first a b c rose = omega (arith, rose)
-
-rose_other : (a b c : ℕ) → Rose a b → Rose (c + a) (c + b)
-rose_other a b c rose = omega (arith, rose)
+use Rattle.iot_server_node.specs.Prelude.{Changes, KeepsDisk, Medium, NoneRose, OneRose, Server, counts_on, disk_on, rules}
 
 module _ {D : Type 0} (medium : Medium D) where
   abbrev counts : (disk : D) (backup given_up : Option D) → Counts
@@ -32,7 +24,7 @@ module _ {D : Type 0} (medium : Medium D) where
   alone_start start.NoMemory bytes disk left given_up takes cause arms =
       λ i. record { faults = cause i + faults_in medium given_up; arms = arms i }
   alone_start start.Stopped bytes disk left given_up takes cause arms =
-      record { faults = rose_first _ _ (faults_in medium given_up) cause; arms = arms }
+      record { faults = omega (arith, cause); arms = arms }
   alone_start fault bytes disk left given_up takes cause arms = absurd takes
 
   pub pair_start : (fault : StartFault) (one other : List ℕ) (disk left backup behind : D) (given_up : Option D) → TakesBytes fault
@@ -42,12 +34,7 @@ module _ {D : Type 0} (medium : Medium D) where
   pair_start start.NoMemory one other disk left backup behind given_up takes cause arms =
       λ i. record { faults = cause.0 i + cause.1 i; arms = arms i }
   pair_start start.Stopped one other disk left backup behind given_up takes cause arms = record {
-    faults = elim cause [
-      | inl it ↦ subst (λ (k : ℕ). Rose (medium.faults disk + medium.faults backup) (medium.faults left + k)) (sym it.1)
-          (rose_first _ _ (medium.faults backup) it.0)
-      | inr it ↦ subst (λ (k : ℕ). Rose (medium.faults disk + medium.faults backup) (k + medium.faults behind)) (sym it.1)
-          (rose_other _ _ (medium.faults disk) it.2)
-    ];
+    faults = elim cause [ inl it ↦ omega (arith, it.0, it.1) | inr it ↦ omega (arith, it.1, it.2) ];
     arms = arms;
   }
   pair_start fault one other disk left backup behind given_up takes cause arms = absurd takes
@@ -66,15 +53,8 @@ module _ {D : Type 0} (medium : Medium D) where
             → Changes (λ old new. Stayed (medium.faults (disk_on old)) (medium.faults (disk_on new))) old new
             → faults_in medium (other_in (option_map disk_on new) given_up) ≡ faults_in medium (other_in (option_map disk_on old) given_up)
         by (Some old) (Some new) it = it
-        by (Some old) None it = absurd it
-        by None (Some new) it = absurd it
         by None None it = refl
-
-    abbrev first : ℕ
-    first = medium.faults (servers.disk_of was)
-
-    abbrev first_now : ℕ
-    first_now = medium.faults (servers.disk_of now)
+        by old new it = absurd it
 
     pub failed_counts : OneRose medium (servers.first_of was) (servers.first_of now) (servers.second_of was) (servers.second_of now)
         → Failed (counts_on (on_both medium) (disks_in (record { server = was; given_up = given_up })))
@@ -83,53 +63,26 @@ module _ {D : Type 0} (medium : Medium D) where
       where
         by : (old new : Option (Slots D)) → OneRose medium (servers.first_of was) (servers.first_of now) old new
             → Changes (λ old new. medium.arms (disk_on new) ≡ medium.arms (disk_on old)) old new
-            → Rose (first + faults_in medium (other_in (option_map disk_on old) given_up))
-            (first_now + faults_in medium (other_in (option_map disk_on new) given_up))
-        by None None rose same = rose_first first first_now (faults_in medium given_up) rose
-        by None (Some new) rose same = absurd same
-        by (Some old) None rose same = absurd same
-        by (Some old) (Some new) rose same = elim rose [
-          | inl it ↦ subst (λ (k : ℕ). Rose (first + medium.faults (disk_on old)) (first_now + k)) (sym it.1)
-              (rose_first first first_now (medium.faults (disk_on old)) it.0)
-          | inr it ↦ subst (λ (k : ℕ). Rose (first + medium.faults (disk_on old)) (k + medium.faults (disk_on new))) (sym it.0)
-              (rose_other (medium.faults (disk_on old)) (medium.faults (disk_on new)) first it.1)
-        ]
-
-    pub kept_sides : sides_of medium (disks_in (record { server = now; given_up = given_up }))
-        ≡ sides_of medium (disks_in (record { server = was; given_up = given_up }))
-    kept_sides =
-        let backup = by (servers.second_of was) (servers.second_of now) arms.second in
-        λ i. record { backup = backup i; given_up = option_map medium.arms given_up }
-      where
-        by : (old new : Option (Slots D)) → Changes (λ old new. medium.arms (disk_on new) ≡ medium.arms (disk_on old)) old new
-            → option_map medium.arms (option_map disk_on new) ≡ option_map medium.arms (option_map disk_on old)
-        by (Some old) (Some new) it = ap (λ (a : Arms). Some a) it
-        by (Some old) None it = absurd it
-        by None (Some new) it = absurd it
-        by None None it = refl
+            → Rose (medium.faults (servers.disk_of was) + faults_in medium (other_in (option_map disk_on old) given_up))
+            (medium.faults (servers.disk_of now) + faults_in medium (other_in (option_map disk_on new) given_up))
+        by None None rose same = omega (arith, rose)
+        by (Some old) (Some new) rose same = elim rose [ inl it ↦ omega (arith, it.0, it.1) | inr it ↦ omega (arith, it.0, it.1) ]
+        by old new rose same = absurd same
 
     abbrev Keeps : Type 0
     Keeps = KeepsDisk (on_both medium) (Some (disks_in (record { server = was; given_up = given_up })))
         (Some (disks_in (record { server = now; given_up = given_up })))
 
+    abbrev both_faults : Server D → ℕ
+    both_faults it = (on_both medium).faults (disks_in (record { server = it; given_up = given_up }))
+
+    keeps : (both_faults now ≡ both_faults was) ⊎ Rose (both_faults was) (both_faults now) → Keeps
+    keeps it = record { was = _; now = _; old_has = refl; new_has = refl; arms = arms.first; faults = it }
+
     pub handled_disks : NoneRose medium (servers.first_of was) (servers.first_of now) (servers.second_of was) (servers.second_of now)
         → Keeps
-    handled_disks none = record {
-      was = _;
-      now = _;
-      old_has = refl;
-      new_has = refl;
-      arms = arms.first;
-      faults = inl (ap (λ (c : Counts). c.faults) (kept_counts none));
-    }
+    handled_disks none = keeps (inl (ap (λ (c : Counts). c.faults) (kept_counts none)))
 
     pub stopped_disks : OneRose medium (servers.first_of was) (servers.first_of now) (servers.second_of was) (servers.second_of now)
         → Keeps
-    stopped_disks one = record {
-      was = _;
-      now = _;
-      old_has = refl;
-      new_has = refl;
-      arms = arms.first;
-      faults = inr (failed_counts one).faults;
-    }
+    stopped_disks one = keeps (inr (failed_counts one).faults)

@@ -1,18 +1,12 @@
 -- What a node says that comes back is decided by its images, where they agree.
 use Rattle.iot_server_node.proofs.Common.{◌≡◌, ℕ, Bool, true, false, List, [], ◌++◌, Option, Some, None, inl, inr, refl, sym, ap, ◌∙◌}
-use Rattle.iot_server_node.proofs.Common.{append_assoc, append-nil, lists, IsImage}
+use Rattle.iot_server_node.proofs.Common.{append_assoc, append-nil, lists}
 use Rattle.iot_server_node.specs.Prelude.{Medium, Storing, next, Commit, Node, Refines, server_name, kept_text}
 use Rattle.iot_server_node.specs.Prelude.{ComesBackAs, stopped_line, kept_as, lost_as, PostStands, CameIf, back_said, Doubt, Post, Down}
 use Rattle.iot_server_node.specs.Prelude.{Disks, Keeping, ServerKeeper, records_in}
 use Rattle.iot_server_node.specs.Disks.{Image, MayLeave, on_both}
-use Rattle.iot_server_node.specs.Records.{AreImages, AreTurning}
 use Rattle.iot_server_node.specs.Deciding.{HasCount, Begins, DecidesBy, DecidesIfAny, DecidesPost}
 use Rattle.iot_node.proofs.PostsLaws.{next_number, same_number}
-
--- an image of a list has as many records as are counted
-many_there : (bytes : List ℕ) (n : ℕ) (commits : List Commit) (count : ℕ) → IsImage bytes n commits → HasCount records_in count bytes
-    → n ≡ count
-many_there bytes n commits count is has = sym is.many ∙ has.counted
 
 -- a text that was said, also within a longer one
 pub begins_in : (text more rest : List ℕ) {x mid y said : List ℕ} → y ≡ mid ++ rest → mid ≡ x ++ said → said ≡ text ++ more
@@ -63,15 +57,6 @@ module _ {K S P I : Type 0} (keeping : Keeping K S P I) (medium : Storing P I) (
       by_doubt (images fallen.disk) fallen.disk (are fallen.disk) fallen.doubt on node came stopped
   decides_post images are post on node came stopped = tt
 
--- an image of both disks has as many records as are counted in that of the first
-both_many : (image : Image) (n : ℕ) (commits : List Commit) (count : ℕ) → AreImages image n commits
-    → HasCount records_in count image.disk → n ≡ count
-both_many image n commits count is has = many_there image.disk n commits count is.disk has
-
-both_more : (image : Image) (n : ℕ) (commits longer : List Commit) (count : ℕ) → AreTurning image n commits longer
-    → HasCount records_in count image.disk → next n ≡ count
-both_more image n commits longer count is has = many_there image.disk (next n) longer count is.disk has
-
 module _ {D : Type 0} (medium : Medium D) (names : List (List ℕ)) (node : Node (List Commit)) (x y : List ℕ) where
   said_stopped : (words : List ℕ) (on : Bool) (n : Node (List Commit)) (text : List ℕ) → on ≡ false → y ≡ x ++ text
       → ComesBackAs words server_name (kept_text names) node text on n → y ≡ x ++ stopped_line server_name
@@ -87,5 +72,8 @@ module _ {D : Type 0} (medium : Medium D) (names : List (List ℕ)) (node : Node
       → CameIf (lists medium) (on_both medium) on old words x y node → DecidesPost records_in images old words server_name x y
   decides words images are old new on here step came =
       let s = step.step node here in
-      decides_post (lists medium) (on_both medium) records_in (λ image. image.disk) both_many both_more words server_name x y y []
+      decides_post (lists medium) (on_both medium) records_in (λ image. image.disk)
+      (λ image n commits count is has. sym is.disk.many ∙ has.counted)
+      (λ image n commits longer count is has. sym is.disk.many ∙ has.counted)
+      words server_name x y y []
       (sym (append-nil y)) images are old on node came (λ off. said_stopped words on s.1 s.0 off s.2 s.3)

@@ -1,17 +1,18 @@
 -- What a server does is what is said of it.
 use Rattle.std.proofs.Math.Nat.{mod-add-mod}
 use Rattle.iot_server_node.proofs.Common.{◌≡◌, ℕ, suc, zero, ◌+◌, ◌%◌, ◌^◌, Bool, true, false, if◌then◌else◌, List, [], ◌∷◌, ◌++◌, length}
-use Rattle.iot_server_node.proofs.Common.{drop, Option, Some, None, IsSome, codes, refl, sym, ap, subst, ◌∙◌, arith, inl, inr}
+use Rattle.iot_server_node.proofs.Common.{drop, Option, Some, None, IsSome, refl, sym, ap, subst, ◌∙◌, arith, inl, inr}
 use Rattle.iot_server_node.proofs.Common.{slice_index_or, length-append, lists, Handles, KeepsList, ServerStands, AreOf, EncodesList}
 use Rattle.iot_server_node.proofs.Common.{IsImage}
-use Rattle.iot_server_node.proofs.Common.{state_of, bind, asks}
+use Rattle.iot_server_node.specs.Servers.{ServerIsSound}
+use Rattle.iot_server_node.proofs.Common.{disk_of, ◌⊎◌, state_of, bind, asks, nothing}
 use Rattle.iot_slots.specs.declared.version.Version.TheVariants.{Two}
-use Rattle.iot_server_node.specs.Prelude.{Medium, Storing, Encoded, NotStarted, header, next, IsGrown, IsRenewed, Leads, rules, State}
-use Rattle.iot_server_node.specs.Prelude.{Changes, Disks}
-use Rattle.iot_server_node.specs.Prelude.{after_commit, Server, Label, Call, Says, Nothing, Then, EachIs, paired, restart_words, state_on}
-use Rattle.iot_server_node.specs.Prelude.{either, Commit, add_commit, tree_after, Node, fallen, changed, back, unopened, Refines}
+use Rattle.iot_server_node.specs.Prelude.{Medium, Storing, Encoded, NotStarted, header, next, IsGrown, Leads, rules, State}
+use Rattle.iot_server_node.specs.Prelude.{Disks}
+use Rattle.iot_server_node.specs.Prelude.{after_commit, Server, Label, Call, paired, restart_words}
+use Rattle.iot_server_node.specs.Prelude.{Commit, add_commit, tree_after, Node, fallen, changed, back, unopened, Refines}
 use Rattle.iot_server_node.specs.Prelude.{server_name, kept_text, OpensNode, Appends, ComesBackAs, SettlesAs, Crashes, Restarts, ArmsDisk}
-use Rattle.iot_server_node.specs.Prelude.{line, transaction_name, IsEmpty, KeepsDisk, counts_on, is_on, live_of, PostStands, HoldsBy}
+use Rattle.iot_server_node.specs.Prelude.{transaction_name, IsEmpty, KeepsDisk, counts_on, is_on, live_of, PostStands, HoldsBy}
 use Rattle.iot_server_node.specs.Prelude.{IsStanding, Lasts, StepsTo, Doubt, Post, Up, Down, Between, ServerKeeper, ServerNode}
 use Rattle.iot_disk.specs.declared.disk.Pick.{Pick}
 use Rattle.iot_tree.specs.declared.access.Access.{Access}
@@ -20,12 +21,18 @@ use Rattle.iot_slots.specs.Decoding.{decoded}
 use Rattle.iot_server.specs.Traffic.{no_traffic}
 use Rattle.iot_machine.specs.Serving.{added_text, commit_text}
 use Rattle.iot_node.specs.Posts as posts
-use Rattle.iot_server_node.specs.Disks.{Image, MayLeave, MayLeaveOf, on_both, placed}
-use Rattle.iot_server_node.specs.Keepers.{traffic_in}
+use Rattle.iot_server_node.specs.Disks.{Image, MayLeave, on_both, placed}
+use Rattle.iot_server_node.specs.Keepers.{Both, traffic_in}
 use Rattle.iot_server_node.specs.Servers.{is_up, IsKnown, AreKnown, AreKnownIfAny, IsOneMoreIfAny, NodeIsKnown, HasAnsweredIn}
 use Rattle.iot_server_node.specs.Servers.{HavingAnswered, IsUnopened, answered_since, live, IsLive, Lives}
 use Rattle.iot_server_node.proofs.CountsLaws.{kept_counts}
-use Rattle.iot_server_node.proofs.KeepersLaws.{empty_image, from_backup, keeps_images, one_counted, record_is, renewed_list, state_is}
+use Rattle.iot_certify.specs.declared.verdict.Verdict.TheVariants.{Holds, Differs}
+use Rattle.iot_server_node.proofs.DisksLaws.{both_only}
+use Rattle.iot_server_node.proofs.KeepersLaws.{each_on, empty_image, keeps_images, one_counted, record_is, renewed_list, state_is}
+use Rattle.iot_server_node.specs.Prelude.{CanFollow, EncodesAfter, IsAnswered, Reply, Submits}
+use Rattle.iot_store.proofs.NumbersLaws.{is_new_from}
+use Rattle.iot_store.specs.Numbers.{number_in}
+use Rattle.iot_wire.specs.declared.requests.Request.TheVariants as requests
 use Rattle.iot_server_node.proofs.PairsLaws.{both_stand}
 use Rattle.iot_machine.proofs.FollowsLaws.{all_as, all_push, at_push}
 use Rattle.iot_machine.proofs.KeepsLaws.{asks_then, keeps_either, keeps_does, stays_says}
@@ -151,34 +158,25 @@ module _ {D : Type 0} (medium : Medium D) (names : List (List ℕ)) where
   abbrev Stands : ℕ → ServerNode D → Node (List Commit) → Type 0
   Stands n = HavingAnswered medium names n
 
-  abbrev Posted : Post (ServerKeeper D) (Disks D) → Node (List Commit) → Type 0
+  abbrev pub Posted : Post (ServerKeeper D) (Disks D) → Node (List Commit) → Type 0
   Posted = PostStands (lists medium) (on_both medium) (kept_text names)
 
   -- what its post does, it does, if what is known of its node stays so
-  pub with_known_there : {A : Type 0} {call : Call (Node (List Commit)) A} {old new : ServerNode D} {n k : ℕ} {x y : List ℕ} {a : A}
+  pub with_known : {A : Type 0} {call : Call (Node (List Commit)) A} {old new : ServerNode D} {n k : ℕ} {x y : List ℕ} {a : A}
       → Refines Posted call old.post new.post x y a
       → ((node after : Node (List Commit)) (text : List ℕ) → Posted old.post node → call node text a after → NodeIsKnown names node
       → NodeIsKnown names after)
       → (HasAnsweredIn n old.post → HasAnsweredIn k new.post) → StepsTo (Stands n) (Stands k) call old new x y a
-  with_known_there one keeps counts = record {
+  with_known one keeps counts = record {
     step = λ node here.
         let s = one.step node here.post in
         (s.0, s.1, s.2, s.3, record { post = s.4; known = keeps node s.1 s.0 here.post s.3 here.known; answered = counts here.answered });
   }
 
-  -- also if it stays so in any node
-  pub with_known : {A : Type 0} {call : Call (Node (List Commit)) A} {old new : ServerNode D} {n k : ℕ} {x y : List ℕ} {a : A}
-      → Refines Posted call old.post new.post x y a → Keeps names call a → (HasAnsweredIn n old.post → HasAnsweredIn k new.post)
-      → StepsTo (Stands n) (Stands k) call old new x y a
-  with_known one keeps counts = with_known_there one (λ node after text here. keeps node after text) counts
-
   -- ---- never started
 
-  each_empty : (disk : D) → IsEmpty medium disk → EachIs (medium.may_leave disk) (λ bytes. IsImage bytes 0 [])
-  each_empty disk empty = record {
-    each = λ bytes there.
-        empty_image bytes (ap (decoded header) (empty.synced.is bytes there ∙ empty.empty) ∙ nothing_started);
-  }
+  each_empty : (disk : D) → IsEmpty medium disk → (bytes : List ℕ) → medium.may_leave disk bytes → IsImage bytes 0 []
+  each_empty disk empty bytes there = empty_image bytes (ap (decoded header) (empty.synced.is bytes there ∙ empty.empty) ∙ nothing_started)
 
   pub unopened_stands : (first backup : D) (n : ℕ) → IsEmpty medium first → IsEmpty medium backup
       → ServerStands medium names (record { post = Down (record { disk = placed false first backup; doubt = None }) })
@@ -190,7 +188,7 @@ module _ {D : Type 0} (medium : Medium D) (names : List (List ℕ)) where
       count = 0;
       holds = record {
         sure = refl;
-        each = both_stand medium first None (Some backup) 0 [] (each_empty first empty) (each_empty backup also);
+        each = both_stand medium (placed false first backup) 0 [] (each_empty first empty) (each_empty backup also);
       };
     };
     known = record { durable = tt; doubt = tt; longer = tt };
@@ -204,16 +202,14 @@ module _ {D : Type 0} (medium : Medium D) (names : List (List ℕ)) where
 
   -- ---- a restart
 
-  -- by whether it is alive
-  pub restarts : (old new : ServerNode D) (n : ℕ) (x y : List ℕ) (on : Bool) → is_up old ≡ on
-      → StepsTo (Stands n) (Stands (answered_since on n))
-      (either (Says (λ _. line (codes "up"))) (Then (ComesBackAs (restart_words server_name) server_name (kept_text names))
-      (λ _. Nothing)) on)
-      old new x y tt
+  -- of one that is down
+  pub restarts : (old new : ServerNode D) (n : ℕ) (x y : List ℕ) (on : Bool) → is_up old ≡ false
+      → StepsTo (Stands n) (Stands 0) (ComesBackAs (restart_words server_name) server_name (kept_text names)) old new x y on
       → StepsTo (Stands n) (Stands (answered_since (is_up old) n)) (Restarts server_name (kept_text names)) old new x y tt
-  restarts old new n x y on is step =
-      rw is
-      (bind old old new x x y on tt (asks old x on (λ node here. sym (up_is old node n here ∙ is))) step)
+  restarts old new n x y on down step =
+      rw down
+      (bind old old new x x y false tt (asks old x false (λ node here. sym (up_is old node n here ∙ down)))
+      (bind old new new x y y on tt step (nothing new y)))
 
   lasts_in : (post : Post (ServerKeeper D) (Disks D)) (node : Node (List Commit)) → Posted post node
       → Lasts (lists medium) (on_both medium) post node
@@ -265,18 +261,13 @@ module _ {D : Type 0} (medium : Medium D) (names : List (List ℕ)) where
     counted_now = sym (store_counted medium (servers.store_of now) it.synced)
 
     -- one that encodes what it did, and has the state that it had, stands for what it stood for
-    pub stands_still : servers.encoded_on medium now ≡ servers.encoded_on medium was
-        → Changes (λ old new. state_on medium new ≡ state_on medium old) (servers.second_of was) (servers.second_of now)
-        → servers.state_of now ≡ servers.state_of was → ServerStands medium names (live given_up now) node (n + 1)
-    stands_still encoded also made =
+    pub stands_still : Both medium (λ old new. new ≡ old) was now → servers.state_of now ≡ servers.state_of was
+        → ServerStands medium names (live given_up now) node (n + 1)
+    stands_still both made =
         stands_on (λ commits. commits) here.post.count (record {
           synced = it.synced;
-          has_list = subst (λ (e : Encoded). EncodesList e node.durable) (sym encoded) here.post.stands.has_list;
-          second = from_backup (λ s. EncodesList (state_on medium s) node.durable) (λ s. EncodesList (state_on medium s) node.durable)
-              (λ old new. state_on medium new ≡ state_on medium old)
-              (λ old new list same. subst (λ (e : Encoded). EncodesList e node.durable) (sym same) list)
-              (servers.second_of was) (servers.second_of now) here.post.stands.second also;
-          many = counted_now ∙ ap (λ (e : Encoded). e.count) encoded ∙ counted_before;
+          lists = each_on both here.post.stands.lists (λ old new list same. rw same list);
+          many = counted_now ∙ ap (λ (e : Encoded). e.count) both.first ∙ counted_before;
           has_state = made ∙ here.post.stands.has_state;
           counted = here.post.stands.counted;
         })
@@ -287,33 +278,22 @@ module _ {D : Type 0} (medium : Medium D) (names : List (List ℕ)) where
         → AreOf commit (tree_after node.durable) label access lines → EncodesList encoded node.durable
         → IsGrown encoded (servers.state_of was) (record { label = label; access = access; lines = lines }) after
         → EncodesList after (add_commit commit node.durable)
-    longer_list {commit} {label} {access} {lines} encoded after are has grown =
-        let renews : IsRenewed rules encoded (state_of node.durable) grown.mid =
-        subst (λ (s : State). IsRenewed rules encoded s grown.mid) here.post.stands.has_state grown.renews in
-        subst (λ (e : Encoded). EncodesList e (add_commit commit node.durable)) (sym grown.is)
+    longer_list encoded after are has grown =
+        rw grown.is
         (record_is node.durable are grown.mid grown.body grown.next.spells
-        (renewed_list encoded grown.mid node.durable renews has))
+        (renewed_list encoded grown.mid node.durable (rw here.post.stands.has_state at grown.renews) has))
 
     -- one that has it, and the state after it, stands for a list with this commit
     pub stands_longer : {commit : Commit} {label : Label} {access : Access} {lines : List (List ℕ)}
         → AreOf commit (tree_after node.durable) label access lines
-        → IsGrown (servers.encoded_on medium was) (servers.state_of was) (record { label = label; access = access; lines = lines })
-        (servers.encoded_on medium now)
-        → Changes (λ old new. IsGrown (state_on medium old) (servers.state_of was)
-        (record { label = label; access = access; lines = lines }) (state_on medium new)) (servers.second_of was) (servers.second_of now)
+        → Both medium (λ old new. IsGrown old (servers.state_of was) (record { label = label; access = access; lines = lines }) new) was now
         → servers.state_of now ≡ after_commit (servers.state_of was) label access → IsKnown names commit
         → ServerStands medium names (live given_up now) (changed (add_commit commit) node) (n + 1)
-    stands_longer {commit} {label} {access} {lines} are grown also made known =
+    stands_longer {commit} {label} {access} {lines} are both made known =
         stands_on (add_commit commit) (next here.post.count) (record {
           synced = it.synced;
-          has_list = longer_list (servers.encoded_on medium was) (servers.encoded_on medium now) are here.post.stands.has_list grown;
-          second = from_backup (λ s. EncodesList (state_on medium s) node.durable)
-              (λ s. EncodesList (state_on medium s) (add_commit commit node.durable))
-              (λ old new. IsGrown (state_on medium old) (servers.state_of was)
-              (record { label = label; access = access; lines = lines }) (state_on medium new))
-              (λ old new list more. longer_list (state_on medium old) (state_on medium new) are list more)
-              (servers.second_of was) (servers.second_of now) here.post.stands.second also;
-          many = counted_now ∙ grown_count _ _ _ _ grown ∙ ap next counted_before;
+          lists = each_on both here.post.stands.lists (λ old new list more. longer_list old new are list more);
+          many = counted_now ∙ grown_count _ _ _ _ both.first ∙ ap next counted_before;
           has_state =
               made ∙ ap (λ (s : State). after_commit s label access) here.post.stands.has_state ∙ sym (state_is node.durable are);
           counted = one_counted here.post.stands commit;
@@ -325,6 +305,26 @@ module _ {D : Type 0} (medium : Medium D) (names : List (List ℕ)) where
         })
 
 -- ---- how it handles a request
+
+-- a submission leaves all as it was, or makes its commit, which can follow
+pub recorded : {before after : State} {was now : Encoded} {label : Label} {access : Access} {lines : List (List ℕ)} {bytes : List ℕ}
+    → IsAnswered before was (requests.Commit label access lines) bytes after now
+    → ((after ≡ before) × (now ≡ was))
+    ⊎ (CanFollow before label access × (after ≡ after_commit before label access)
+    × IsGrown was before (record { label = label; access = access; lines = lines }) now)
+recorded {before} {after} {was} {now} {label} {access} {lines} it =
+    by (number_in before.labels label.client label.tid) it.reply refl it.answers it.encodes
+  where
+    by : (found : Option ℕ) (reply : Reply) → number_in before.labels label.client label.tid ≡ found
+        → Submits found before label access reply after → EncodesAfter (requests.Commit label access lines) reply before was now
+        → ((after ≡ before) × (now ≡ was))
+        ⊎ (CanFollow before label access × (after ≡ after_commit before label access)
+        × IsGrown was before (record { label = label; access = access; lines = lines }) now)
+    by (Some number) reply listed (replied, made) it = inl (made, rw replied at it)
+    by None reply none (Holds, holds, inl (fit, replied, made)) it =
+        inr (record { is_new = is_new_from before.labels label.client label.tid none; holds = holds; fit = fit }, made, rw replied at it)
+    by None reply none (Holds, holds, inr (misfit, replied, made)) it = inl (made, rw replied at it)
+    by None reply none (Differs place answer, judged, (replied, made)) it = inl (made, rw replied at it)
 
 pub lives : {D : Type 0} (By : List ℕ → Server D → Server D → Type 0) {old : ServerNode D} {was now : ServerKeeper D}
     {given asked : List ℕ} → old.post ≡ Up was → given ≡ asked → now.given_up ≡ was.given_up → By given was.server now.server
@@ -348,20 +348,18 @@ is_standing medium server never = record {
       rw never.down (unopened_stands medium [] never.first never.backup 0 never.empty never.empty_backup).post;
 }
 
+-- a server that stands for some node has its disks, and they are the same if nothing is done
+pub keeps_own : {D : Type 0} (medium : Medium D) (server : ServerNode D) → ServerIsSound medium server
+    → KeepsDisk (on_both medium) (disk_of server) (disk_of server)
+keeps_own medium server sound =
+    keeps_same (on_both medium) (disk_of server) (disk_of server)
+    (has_disk medium sound.names server.post sound.node sound.stands.post) refl
+
 -- and can be started
 pub is_ready : {D : Type 0} (medium : Medium D) (server : ServerNode D) → IsUnopened medium server
     → posts.Ready (on_both medium) server.post
-is_ready medium server never = rw never.down (refl, record { is = λ image left. both image left })
-  where
-    both : (image : Image) → MayLeave medium (placed false never.first never.backup) image
-        → image ≡ (on_both medium).reads (placed false never.first never.backup)
-    both image left =
-        let backup = by image.backup left.backup in
-        λ i. record { disk = never.empty.synced.is image.disk left.disk i; backup = backup i }
-      where
-        by : (image : Option (List ℕ)) → MayLeaveOf medium (Some never.backup) image → image ≡ Some (medium.reads never.backup)
-        by (Some j) left = ap (λ (bytes : List ℕ). Some bytes) (never.empty_backup.synced.is j left)
-        by None left = absurd left
+is_ready medium server never =
+    rw never.down (refl, both_only medium (placed false never.first never.backup) never.empty.synced never.empty_backup.synced)
 
 -- ---- one client more is declared
 

@@ -14,9 +14,8 @@ pub record Image : Type 0 where
 -- a crash may leave this of a backup that may be missing
 abbrev pub MayLeaveOf : {D : Type 0} → Medium D → Option D → Option (List ℕ) → Type 0
 MayLeaveOf medium (Some disk) (Some image) = medium.may_leave disk image
-MayLeaveOf medium (Some disk) None = ⊥
-MayLeaveOf medium None (Some image) = ⊥
 MayLeaveOf medium None None = Unit {0}
+MayLeaveOf medium disk image = ⊥
 
 -- a crash may leave this
 pub record MayLeave {D : Type 0} (medium : Medium D) (disks : Disks D) (image : Image) : Type 0 where

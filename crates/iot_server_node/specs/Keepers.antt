@@ -1,7 +1,7 @@
 -- For which list of commits a server stands, and how it handles a request.
-use Rattle.std.specs.Prelude.{◌≡◌, ◌⊎◌, ℕ, ◌+◌, ◌%◌, ◌^◌, List, length, Option, Some, None, option_map}
-use Rattle.iot_server_node.specs.Prelude.{Medium, JournalFault, IsHandled, Server, Commit, IsMessage, IsRequest, Changes, If, NoneRose}
-use Rattle.iot_server_node.specs.Prelude.{OneRose}
+use Rattle.std.specs.Prelude.{◌≡◌, ℕ, ◌+◌, ◌%◌, ◌^◌, List, length, option_map}
+use Rattle.iot_server_node.specs.Prelude.{Medium, JournalFault, IsHandled, Server, Commit, IsMessage, IsRequest, Changes, Encoded, If}
+use Rattle.iot_server_node.specs.Prelude.{NoneRose, OneRose}
 use Rattle.iot_server_node.specs.Prelude.{request_spelling, Keeping, ServerKeeper, Disks, EachStarts, images_of, disk_on, state_on}
 use Rattle.iot_disk.specs.declared.faults.JournalFault.TheVariants as append
 use Rattle.iot_server.specs.Faults.{CutsOff, LacksMemory}
@@ -22,11 +22,20 @@ disks_in keeper = record {
   given_up = keeper.given_up;
 }
 
+-- of what each disk of a server encodes
+pub record Each {D : Type 0} (medium : Medium D) (P : Encoded → Type 0) (it : Server D) : Type 0 where
+  pub first : P (servers.encoded_on medium it)
+  pub second : If (λ s. P (state_on medium s)) (servers.second_of it)
+
+-- of what each encoded before, and what it encodes now
+pub record Both {D : Type 0} (medium : Medium D) (R : (was now : Encoded) → Type 0) (old new : Server D) : Type 0 where
+  pub first : R (servers.encoded_on medium old) (servers.encoded_on medium new)
+  pub second : Changes (λ was now. R (state_on medium was) (state_on medium now)) (servers.second_of old) (servers.second_of new)
+
 -- a keeper's store has the state of this list, which has so many commits, its disks encode the list, and nothing is under way
 pub record KeepsList {D : Type 0} (medium : Medium D) (keeper : ServerKeeper D) (count : ℕ) (commits : List Commit) : Type 0 where
   pub synced : servers.IsSynced medium keeper.server
-  pub has_list : EncodesList (servers.encoded_on medium keeper.server) commits
-  pub second : If (λ s. EncodesList (state_on medium s) commits) (servers.second_of keeper.server)
+  pub lists : Each medium (λ encoded. EncodesList encoded commits) keeper.server
   pub many : servers.count_of keeper.server ≡ count
   pub has_state : servers.state_of keeper.server ≡ state_of commits
   pub counted : count ≡ length commits
@@ -44,10 +53,7 @@ pub record KeepsArms {D : Type 0} (medium : Medium D) (was now : Server D) : Typ
 
 -- a server has handled a request, and replied; each disk has what that makes of it
 pub record Handles {D : Type 0} (medium : Medium D) (asked reply : List ℕ) (was now : Server D) : Type 0 where
-  pub handled : IsHandled (servers.state_of was) (servers.encoded_on medium was) asked reply (servers.state_of now)
-      (servers.encoded_on medium now)
-  pub second : Changes (λ old new. IsHandled (servers.state_of was) (state_on medium old) asked reply (servers.state_of now)
-      (state_on medium new)) (servers.second_of was) (servers.second_of now)
+  pub handled : Both medium (λ old new. IsHandled (servers.state_of was) old asked reply (servers.state_of now) new) was now
   pub synced : servers.IsSynced medium now
   pub arms : KeepsArms medium was now
   pub faults : NoneRose medium (servers.first_of was) (servers.first_of now) (servers.second_of was) (servers.second_of now)

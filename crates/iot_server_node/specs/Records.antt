@@ -2,7 +2,7 @@
 use Rattle.std.specs.Prelude.{◌≡◌, ◌⊎◌, ℕ, List, [], ◌∷◌, ◌++◌, length, Option, None, Some}
 use Rattle.iot_server_node.specs.Prelude.{Storing, Nodes, run_entry, State, record_spelling, Commit, tree_after, If, next, LacksLast}
 use Rattle.iot_access.specs.Access.{access_of, lines_of}
-use Rattle.iot_server_node.specs.Prelude.{StandFor, rules, Leads, header, records_in, Decoded, Encodes, NotStarted, Foreign, Damaged}
+use Rattle.iot_server_node.specs.Prelude.{StandFor, rules, Leads, header, records_in, Decoded, Encodes, NotStarted}
 use Rattle.iot_server_node.specs.Prelude.{Encoded, decoded, MayFollow}
 use Rattle.iot_slots.specs.declared.version.Version.TheVariants.{Two}
 use Rattle.iot_store.specs.Bodies.{IsBody}
@@ -29,8 +29,7 @@ pub record EncodesList (encoded : Encoded) (commits : List Commit) : Type 0 wher
 abbrev pub HasList : Decoded → List Commit → Type 0
 HasList (Encodes encoded) commits = EncodesList encoded commits
 HasList NotStarted commits = commits ≡ []
-HasList Foreign commits = ⊥
-HasList (Damaged at) commits = ⊥
+HasList decoded commits = ⊥
 
 -- The bytes stand for the state of this list, which has so many commits. As many records were ever appended to them; they have a
 -- checkpoint of its first commits, and the records of the others.

@@ -6,7 +6,7 @@ use Rattle.iot_access.specs.Access.{access_of, after_updates, lines_of}
 use Rattle.iot_tree.specs.declared.access.Access.{Access}
 use Rattle.iot_server_node.specs.Prelude.{Nodes, IsTree, Act, Label, reads_of, Medium, JournalFault, run_entry, Call, Commit, tree_after}
 use Rattle.iot_server_node.specs.Prelude.{Node, server_name, kept_text, Appends, transaction_name, acts_output, IsEmpty, Appended, Doubts}
-use Rattle.iot_server_node.specs.Prelude.{PostStands, UpStands, StepsFrom, is_on, StepsTo, Doubt, Post, Up, Down, Between, Server}
+use Rattle.iot_server_node.specs.Prelude.{PostStands, UpStands, StepsFrom, is_on, StepsTo, Doubt, Post, Up, Down, Server}
 use Rattle.iot_server_node.specs.Prelude.{IsMessage, IsRequest, request_spelling, ServerKeeper, Handed, Message, Served, ServerNode, Leads}
 use Rattle.iot_server_node.specs.Prelude.{Arms, ComesBackAs, Disks, KeepsDisk, armed, armed_with, arming_as, promote_words}
 use Rattle.iot_disk.specs.declared.disk.Pick.{Pick}
@@ -78,21 +78,15 @@ pub record HasPlaces {D : Type 0} (server : ServerNode D) : Type 0 where
 -- the live server itself
 abbrev pub lent_in : {D : Type 0} → Post (ServerKeeper D) (Disks D) → Option (Server D)
 lent_in (Up keeper) = Some keeper.server
-lent_in (Down fallen) = None
-lent_in Between = None
+lent_in post = None
 
 abbrev pub lent_of : {D : Type 0} → ServerNode D → Option (Server D)
 lent_of server = lent_in server.post
 
--- the tree of a live server
-abbrev pub tree_of : {D : Type 0} → ServerNode D → Option Nodes
-tree_of server = option_map (λ it. (servers.state_of it).tree) (lent_of server)
-
 -- the stamps of a live server's tree
 abbrev pub stamps_in : {D : Type 0} → Post (ServerKeeper D) (Disks D) → Stamps
 stamps_in (Up keeper) = (servers.state_of keeper.server).stamps
-stamps_in (Down fallen) = opening_stamps
-stamps_in Between = opening_stamps
+stamps_in post = opening_stamps
 
 abbrev pub stamps_of : {D : Type 0} → ServerNode D → Stamps
 stamps_of server = stamps_in server.post
@@ -100,8 +94,7 @@ stamps_of server = stamps_in server.post
 -- how many commits a live server has
 abbrev pub count_in : {D : Type 0} → Post (ServerKeeper D) (Disks D) → ℕ
 count_in (Up keeper) = length (servers.state_of keeper.server).labels
-count_in (Down fallen) = 0
-count_in Between = 0
+count_in post = 0
 
 abbrev pub count_of : {D : Type 0} → ServerNode D → ℕ
 count_of server = count_in server.post
@@ -140,8 +133,7 @@ pub record NodeIsKnown (names : List (List ℕ)) (node : Node (List Commit)) : T
 -- a live server has answered so many requests since its start, as far as it can count
 abbrev pub HasAnsweredIn : {D : Type 0} → ℕ → Post (ServerKeeper D) (Disks D) → Type 0
 HasAnsweredIn n (Up keeper) = (traffic_in keeper).requests ≡ n % 2 ^ 64
-HasAnsweredIn n (Down fallen) = Unit {0}
-HasAnsweredIn n Between = Unit {0}
+HasAnsweredIn n post = Unit {0}
 
 abbrev pub HasAnswered : {D : Type 0} → ℕ → ServerNode D → Type 0
 HasAnswered n server = HasAnsweredIn n server.post
@@ -194,8 +186,7 @@ pub record IsUnopened {D : Type 0} (medium : Medium D) (server : ServerNode D) :
 -- the same node over the disks that it has then
 abbrev pub turned_post : {D : Type 0} → Post (ServerKeeper D) (Disks D) → Post (ServerKeeper D) (Disks D)
 turned_post (Down fallen) = Down (record fallen { disk = turned fallen.disk })
-turned_post (Up keeper) = Up keeper
-turned_post Between = Between
+turned_post post = post
 
 -- The first disk was given up, whatever came of the call: it is the other one from now on, and the backup is the server's. Neither was
 -- armed, and the sum of their counts of faults is what it was or rose.

@@ -62,70 +62,6 @@ impl<D: Disk> ServerKeeper<D> {
         let second = self.given_up.is_none();
         self.server.arm(second, calls, pick);
     }
-
-    /// Starts from a disk and its backup.
-    fn start_pair(
-        alloc: Global,
-        disk: D,
-        backup: D,
-        given_up: Option<D>,
-    ) -> Result<Self, (Disks<D>, StartFault)>
-        requires first { Only (D.medium.reads disk) (D.medium.may_leave disk) }
-        requires second { Only (D.medium.reads backup) (D.medium.may_leave backup) }
-        requires can { CanStart (lists D.medium) (record { disk = D.medium.reads disk; backup = Some (D.medium.reads backup) }) }
-        ensures comes { IfOk result (Comes (lists D.medium) (on_both D.medium)
-            (record { disk = disk; backup = Some backup; given_up = given_up })) }
-        ensures live { IfOk result (λ made. traffic_in made ≡ no_traffic) }
-        ensures beside { IfOk result (λ made. sides_of D.medium (disks_in made)
-            ≡ sides_of D.medium (record { disk = disk; backup = Some backup; given_up = given_up })) }
-        ensures fails { IfErr result (λ refused. Fails (lists D.medium) (on_both D.medium)
-            (record { disk = disk; backup = Some backup; given_up = given_up }) refused.0 refused.1) }
-        ensures left { IfErr result (λ refused. sides_of D.medium refused.0
-            ≡ sides_of D.medium (record { disk = disk; backup = Some backup; given_up = given_up })) }
-    {
-        match Server::start_pair(alloc, disk, backup) {
-            Ok(server) => Ok(ServerKeeper { server, given_up }),
-            Err((disk, backup, fault)) => Err((
-                Disks {
-                    disk,
-                    backup: Some(backup),
-                    given_up,
-                },
-                of_twin(fault),
-            )),
-        }
-    }
-
-    /// Starts from a disk that is alone.
-    fn start_alone(
-        alloc: Global,
-        disk: D,
-        given_up: Option<D>,
-    ) -> Result<Self, (Disks<D>, StartFault)>
-        requires only { Only (D.medium.reads disk) (D.medium.may_leave disk) }
-        requires can { CanStart (lists D.medium) (record { disk = D.medium.reads disk; backup = None }) }
-        ensures comes { IfOk result (Comes (lists D.medium) (on_both D.medium)
-            (record { disk = disk; backup = None; given_up = given_up })) }
-        ensures live { IfOk result (λ made. traffic_in made ≡ no_traffic) }
-        ensures beside { IfOk result (λ made. sides_of D.medium (disks_in made)
-            ≡ sides_of D.medium (record { disk = disk; backup = None; given_up = given_up })) }
-        ensures fails { IfErr result (λ refused. Fails (lists D.medium) (on_both D.medium)
-            (record { disk = disk; backup = None; given_up = given_up }) refused.0 refused.1) }
-        ensures left { IfErr result (λ refused. sides_of D.medium refused.0
-            ≡ sides_of D.medium (record { disk = disk; backup = None; given_up = given_up })) }
-    {
-        match Server::start(alloc, disk) {
-            Ok(server) => Ok(ServerKeeper { server, given_up }),
-            Err((disk, fault)) => Err((
-                Disks {
-                    disk,
-                    backup: None,
-                    given_up,
-                },
-                fault,
-            )),
-        }
-    }
 }
 
 impl<D: Disk> Keeper<Disks<D>> for ServerKeeper<D> {
@@ -160,8 +96,31 @@ impl<D: Disk> Keeper<Disks<D>> for ServerKeeper<D> {
             given_up,
         } = disk;
         match backup {
-            Some(backup) => ServerKeeper::start_pair(alloc, disk, backup, given_up),
-            None => ServerKeeper::start_alone(alloc, disk, given_up),
+            Some(backup) => match Server::start_pair(alloc, disk, backup) {
+                Ok(server) => Ok(ServerKeeper { server, given_up }),
+                Err((disk, backup, fault)) => Err((
+                    Disks {
+                        disk,
+                        backup: Some(backup),
+                        given_up,
+                    },
+                    match fault {
+                        TwinFault::Disk(fault) => fault,
+                        TwinFault::Apart { .. } => unreachable!(),
+                    },
+                )),
+            },
+            None => match Server::start(alloc, disk) {
+                Ok(server) => Ok(ServerKeeper { server, given_up }),
+                Err((disk, fault)) => Err((
+                    Disks {
+                        disk,
+                        backup: None,
+                        given_up,
+                    },
+                    fault,
+                )),
+            },
         }
     }
 
@@ -192,15 +151,4 @@ impl<D: Disk> Keeper<Disks<D>> for ServerKeeper<D> {
     }
 
     ghost reads_is_image = { reads_may_leave D.medium D.reads_is_image };
-}
-
-/// Why a start from two disks, neither of which nor their counts are refused, gives no server.
-fn of_twin(fault: TwinFault) -> StartFault
-    requires { TakesBoth fault }
-    ensures { fault ≡ OfDisk result }
-{
-    match fault {
-        TwinFault::Disk(fault) => fault,
-        TwinFault::Apart { .. } => unreachable!(),
-    }
 }

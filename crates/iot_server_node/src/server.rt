@@ -26,7 +26,6 @@ use iot_inspect::show;
 use iot_node::{Comeback, Doubt, Fallen, Halt, Post, say, say_stop};
 use iot_server::Server;
 use iot_text::{NoMemory, Text};
-use iot_tree::Tree;
 use std::alloc::Global;
 use std::mem;
 
@@ -49,7 +48,7 @@ pub struct Served {
 impl<D: Disk> ServerNode<D> {
     ghost use Rattle.iot_judging.specs.Verdicts.{SpellsVerdict};
     ghost use Rattle.iot_server_node.specs.Messages.{IsSomeRequest, SpellsCut, printed_under};
-    ghost use Rattle.iot_server_node.specs.Servers.{is_up, disk_of, post_of, count_of, tree_of, stamps_of, lent_of, ServerStands};
+    ghost use Rattle.iot_server_node.specs.Servers.{is_up, disk_of, post_of, count_of, stamps_of, lent_of, ServerStands};
     ghost use Rattle.iot_server_node.specs.Servers.{HavingAnswered};
     ghost use Rattle.iot_server_node.specs.Servers.{ServerIsSound, IsUnopened, HasDisk, IsLive, Handled, Refused, GivesUp, ServesBy};
     ghost use Rattle.iot_server_node.specs.Servers.{IsHanded, IsNamedIn, LendsServer, KeepsCommits, answered_since};
@@ -77,7 +76,7 @@ impl<D: Disk> ServerNode<D> {
     }
 
     /// Starts for the first time, and tells whether it did. Else it has stopped, which is said.
-    #[tactic(auto, using(crate::proofs::ServersLaws::is_standing))]
+    #[tactic(auto, using(crate::proofs::ServersLaws::is_standing, crate::proofs::BeginningLaws::commits_last))]
     pub fn open(&mut self, alloc: Global, out: &mut Text) -> Result<bool, NoMemory>
         requires { IsUnopened D.medium self.old }
         ensures step { IfOk result (λ on. (names : List (List ℕ)) (n : ℕ)
@@ -118,15 +117,6 @@ impl<D: Disk> ServerNode<D> {
             → IsHanded message.now it → IsNamedIn names it
             → ServesBy D.medium names (Judges it) (SpellsVerdict it.reads) message.now.handed served
             self.old self.new out.old out.new) }
-
-        // If memory runs out, the disks still hold the list of commits, or that and the transaction that was handed in.
-        ensures lends_lasts { IfErr result (λ _. (client : ℕ) (held : Stamps) (errand : Errand) (names : List (List ℕ)) (n : ℕ)
-            (node : Node (List Commit)) → IsErrand client held errand message.now.request.items
-            → ServerStands D.medium names self.old node n → Lasts (lists D.medium) (on_both D.medium) (post_of self.new) node) }
-        ensures judges_lasts { IfErr result (λ _. (it : Submission) (names : List (List ℕ)) (n : ℕ)
-            (node : Node (List Commit)) → IsHanded message.now it
-            → ServerStands D.medium names self.old node n
-            → Lasts (lists D.medium) (on_both D.medium) (post_of self.new) (doubting (add_commit it.commit) node)) }
 
         // Whatever comes of it, no commit is lost.
         ensures records { KeepsRecords (on_both D.medium) (disk_of self.old) (disk_of self.new) }
@@ -214,7 +204,7 @@ impl<D: Disk> ServerNode<D> {
 
     /// Comes back from one of the images that its disk and its backup may have. A commit that was in doubt is printed if it was kept. If a
     /// disk fails in that, the server has stopped again, and what was in doubt still is.
-    #[tactic(auto, using(crate::proofs::BeginningLaws::commits_same))]
+    #[tactic(auto, using(crate::proofs::BeginningLaws::commits_same, crate::proofs::BeginningLaws::commits_last))]
     pub fn restart(&mut self, alloc: Global, out: &mut Text) -> Result<(), NoMemory>
         requires { ServerIsSound D.medium self.old }
 
@@ -231,8 +221,6 @@ impl<D: Disk> ServerNode<D> {
 
         // So if all images of its disk have the commit that is in doubt, or none has it, that decides whether it is kept.
         ensures decided { OnOk result (DecidesServer D.medium Restart self.old out.old out.new) }
-        ensures lasts { (names : List (List ℕ)) (n : ℕ) (node : Node (List Commit))
-            → ServerStands D.medium names self.old node n → Lasts (lists D.medium) (on_both D.medium) (post_of self.new) node }
         ensures records { KeepsCommits D.medium self.old self.new }
         ensures disk { KeepsDisk (on_both D.medium) (disk_of self.old) (disk_of self.new) }
         ensures beside { KeepsBeside D.medium self.old self.new }
@@ -269,8 +257,6 @@ impl<D: Disk> ServerNode<D> {
 
         // So if all images of the backup have the commit that is in doubt, or none has it, that decides whether it is kept.
         ensures decided { is_promoted self.old ≡ false → OnOk result (DecidesServer D.medium Promote self.old out.old out.new) }
-        ensures lasts { (names : List (List ℕ)) (n : ℕ) (node : Node (List Commit))
-            → ServerStands D.medium names self.old node n → Lasts (lists D.medium) (on_both D.medium) (post_of self.new) node }
         ensures records { KeepsCommits D.medium self.old self.new }
     {
         if self.is_up() {
@@ -350,8 +336,8 @@ impl<D: Disk> ServerNode<D> {
             → StepsTo (HavingAnswered D.medium names n) (HavingAnswered D.medium names n)
             (Shows (λ commits. tree_text (tree_after commits))) self.now self.now out.old out.new tt) }
     {
-        match self.tree() {
-            Some(tree) => show(tree, out)?,
+        match self.lent() {
+            Some(server) => show(server.store().tree(), out)?,
             None => say(b"down", out)?,
         }
         Ok(())
@@ -384,16 +370,6 @@ impl<D: Disk> ServerNode<D> {
     {
         match &self.post {
             Post::Up(keeper) => Some(&keeper.server),
-            Post::Down(_) | Post::Between => None,
-        }
-    }
-
-    /// Its tree, if it is alive.
-    fn tree(&self) -> Option<&Tree>
-        ensures { option_copied result ≡ tree_of self.now }
-    {
-        match &self.post {
-            Post::Up(keeper) => Some(keeper.server.store().tree()),
             Post::Down(_) | Post::Between => None,
         }
     }

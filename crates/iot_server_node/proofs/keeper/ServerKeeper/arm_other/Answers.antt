@@ -4,5 +4,6 @@ use Rattle.iot_server_node.proofs.keeper.ServerKeeper.arm_other.Goals as goal
 
 pub returns-clause-stands : goal.returns-clause-stands
 returns-clause-stands g c n commits is =
-    let both = reads_both g.D.Disk.medium c.args.self.now.server c.arm.new.self c.is_none-second.result c.arm.ensures.reads c.arm.ensures.other in
-    still_keeps is c.arm.new.self _ (c.arm.ensures.synced is.synced) both.0 both.1 c.arm.ensures.state c.arm.ensures.count
+    still_keeps is g.met.D.Disk.reads_is_image c.arm.new.self _ (c.arm.ensures.synced is.synced)
+    (reads_both g.D.Disk.medium c.args.self.now.server c.arm.new.self c.args.self.now.given_up c.is_none-second.result c.arm.ensures.reads
+    c.arm.ensures.other) c.arm.ensures.state c.arm.ensures.count

@@ -1,11 +1,10 @@
-use Rattle.std.proofs.Common.{ap}
+use Rattle.std.proofs.Common.{ap, ◌∙◌}
 use Rattle.std.proofs.lemmas.Result.{IfErr-weaker, on_ok_weaker}
 use Rattle.iot_node.specs.Posts as posts
 use Rattle.iot_server_node.specs.Disks.{on_both}
 use Rattle.iot_server_node.specs.Keepers.{disks_in}
 use Rattle.iot_server_node.specs.Servers.{disk_of}
 use Rattle.iot_server_node.specs.Prelude.{kept_text}
-use Rattle.iot_server_node.proofs.BackupLaws.{beside_same}
 use Rattle.iot_server_node.proofs.ServersLaws.{with_known, keeps_same, known_armed, answered_same}
 use Rattle.iot_server_node.proofs.server.ServerNode.arm.Goals as goal
 
@@ -13,13 +12,13 @@ pub returns-clause-step : goal.returns-clause-step
 returns-clause-step g c =
     on_ok_weaker c.arm.result
     (λ step names n.
-    with_known g.D.Disk.medium names (step 0 (kept_text names)) (known_armed names c.args.calls c.args.pick)
+    with_known g.D.Disk.medium names (step 0 (kept_text names))
+    (λ node after text here. known_armed names c.args.calls c.args.pick node after text)
     (λ had. answered_same c.args.self.now.post c.arm.new.self n c.arm.ensures.live had))
     c.arm.ensures.step
 
 pub returns-clause-beside : goal.returns-clause-beside
-returns-clause-beside g c =
-    beside_same g.D.Disk.medium c.args.self.now (record { post = c.arm.new.self }) (c.arm.ensures.beside 0)
+returns-clause-beside g c promoted arms it = record { is = c.arm.ensures.beside 0 ∙ it.is }
 
 pub returns-clause-disk : goal.returns-clause-disk
 returns-clause-disk g c =

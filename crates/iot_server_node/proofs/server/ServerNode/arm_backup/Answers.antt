@@ -1,4 +1,4 @@
-use Rattle.iot_server_node.proofs.BackupLaws.{arms_down, arms_up, is_placed, up_placed}
+use Rattle.iot_server_node.proofs.BackupLaws.{arms_down, arms_up, up_placed}
 use Rattle.iot_server_node.proofs.server.ServerNode.arm_backup.Goals as goal
 
 pub arm_other-requires : goal.arm_other-requires

@@ -1,6 +1,5 @@
-use Rattle.iot_server_node.proofs.Common.{ap, option_map, disk_of}
+use Rattle.iot_server_node.proofs.Common.{ap, option_map, disk_of, ◌∙◌}
 use Rattle.iot_server_node.specs.Disks.{on_both, sides_of}
-use Rattle.iot_server_node.proofs.BackupLaws.{beside_same}
 use Rattle.iot_server_node.specs.Prelude.{kept_text}
 use Rattle.iot_server_node.proofs.KeepersLaws.{if_ok_both}
 use Rattle.iot_server_node.proofs.ServersLaws.{with_known, known_crash, answered_off, keeps_same}
@@ -10,17 +9,18 @@ pub returns-clause-step : goal.returns-clause-step
 returns-clause-step g c =
     if_ok_both c.crash.result
     (λ done step down names n.
-    with_known g.D.Disk.medium names (step 0 (kept_text names)) (known_crash names) (λ had. answered_off c.crash.new.self n down))
+    with_known g.D.Disk.medium names (step 0 (kept_text names)) (λ node after text here. known_crash names node after text)
+    (λ had. answered_off c.crash.new.self n down))
     c.crash.ensures.step c.crash.ensures.down
 
 pub returns-clause-disk : goal.returns-clause-disk
 returns-clause-disk g c =
-    keeps_same (on_both g.D.Disk.medium) (disk_of c.args.self.now) (disk_of (record { post = c.crash.new.self })) c.requires (c.crash.ensures.disk 0)
+    keeps_same (on_both g.D.Disk.medium) (disk_of c.args.self.now) (disk_of (record { post = c.crash.new.self })) c.requires
+    (c.crash.ensures.disk 0)
 
 pub returns-clause-same : goal.returns-clause-same
 returns-clause-same g c = c.crash.ensures.disk 0
 
 pub returns-clause-beside : goal.returns-clause-beside
-returns-clause-beside g c =
-    beside_same g.D.Disk.medium c.args.self.now (record { post = c.crash.new.self })
-    (ap (option_map (sides_of g.D.Disk.medium)) (c.crash.ensures.disk 0))
+returns-clause-beside g c promoted arms it =
+    record { is = ap (option_map (sides_of g.D.Disk.medium)) (c.crash.ensures.disk 0) ∙ it.is }

@@ -1,4 +1,3 @@
-use Rattle.std.proofs.Common.{ap, sym, ◌∙◌}
 use Rattle.iot_server_node.proofs.BackupLaws.{has_disks, given_back, some_disks}
 use Rattle.iot_server_node.proofs.server.ServerNode.into_disks.Goals as goal
 
