@@ -2,13 +2,13 @@
 -- change, or a stop in it.
 use Rattle.std.proofs.lemmas.Result.{IfOk-weaker, IfOk-at_ok}
 use Rattle.std.proofs.Common.{◌≡◌, ℕ, true, false, List, [], ◌∷◌, Option, Some, None, Result, Ok, Err, inl, inr}
-use Rattle.std.proofs.Common.{refl, sym, ap, subst, ◌∙◌}
+use Rattle.std.proofs.Common.{refl, sym, ap, subst, ◌∙◌, rules}
 use Rattle.std.specs.Prelude.{IfOk, OnOk, IsErrOf, IfErr}
 use Rattle.std.proofs.lemmas.Option.{same_Some}
 use Rattle.iot_access.specs.Access.{access_of}
 use Rattle.iot_laptop.specs.Below.{Nodes, IsTree, IsSpelledTree, IsScript, Resolved, State, CanFollow, after, Notes}
 use Rattle.iot_laptop.specs.Below.{Live, IsTied, state_of, live_of, disk_of, records_of, Client}
-use Rattle.iot_laptop.specs.Below.{StandWith, next}
+use Rattle.iot_laptop.specs.Below.{Call, StandWith, next as next_count, place_of}
 use Rattle.iot_laptop.specs.Below.{ClientFault, Stopped, Medium, Declared, ClientState, leave, repair, Node, Appends, Writes}
 use Rattle.iot_laptop.specs.Below.{KeepsDisk, Appended, UpStands, StepsFrom, Answered, is_on, StepsTo, Halt, NoMemory, Over, Post, Up}
 use Rattle.iot_laptop.specs.Below.{Between, no_text, SpellsVerdict, Laptop, Seated, Read, Resolution, Code, IsHeadsRun}
@@ -22,7 +22,8 @@ use Rattle.iot_kept.specs.declared.bringing.Purpose.{Purpose}
 use Rattle.iot_kept.proofs.BringingLaws.{base_spelled, brought_spelled}
 use Rattle.iot_kept.proofs.SyncedLaws.{synced_spelled}
 use Rattle.iot_tree.specs.declared.changes.Changes.{Changes as RowChanges}
-use Rattle.iot_laptop.specs.Laptops.{stamps_by, stamps_in, NodeStands, LaptopStands, ClientStands, live_by, records_in, records_by, disk_by}
+use Rattle.iot_laptop.specs.Laptops.{stamps_in, LaptopStands, ClientStands, live_by, live_in, records_in, records_by, disk_by}
+use Rattle.iot_laptop.specs.Laptops.{state_in}
 use Rattle.iot_standing.specs.States.{StateStands, head_option, told_change}
 use Rattle.iot_client.proofs.TrailsLaws.{same_changes}
 use Rattle.iot_machine.proofs.PossiblyLaws.{possibly_sure, appends_possibly}
@@ -33,6 +34,7 @@ use Rattle.iot_changes.specs.declared.changes.Change.TheVariants.{Repaired, Left
 use Rattle.iot_client.specs.Calls.{CutsOff, Brings, CutsOffByTree, CutsOffByVerdict, CutsOffByRun, Resolves}
 use Rattle.iot_client.specs.Calls.{CutsOffRerun, Reruns, RefusesReply}
 use Rattle.iot_client.specs.Faults.{CountsFault, MayFail}
+use Rattle.iot_machine.specs.Calls.{Then}
 use Rattle.iot_machine.specs.Nodes.{changed}
 use Rattle.iot_node.specs.Steps.{EndsBy}
 use Rattle.iot_limits.proofs.TreesLaws.{tree_spelled}
@@ -44,14 +46,14 @@ use Rattle.iot_machine.specs.Clients as clients
 use Rattle.iot_machine.specs.Serving as serving
 use Rattle.iot_client.specs.declared.fault.ClientFault.TheVariants as faults
 use Rattle.iot_laptop.specs.Alone.{NotesAlone}
-use Rattle.iot_laptop.specs.Calls.{appended, done, EndsAlone, GoesOn, Changes, Repairs, Plans}
+use Rattle.iot_laptop.specs.Calls.{appended, done, Before, EndsAlone, GoesOn, Changes, Repairs, Plans}
 use Rattle.iot_laptop.specs.Calls.{TakesVerdict, head_reads, acts_in}
 use Rattle.iot_standing.specs.Kept.{StateKept}
 use Rattle.iot_laptop.specs.Messages.{SpellsTree}
 use Rattle.iot_standing.specs.Scripts.{AreNamed}
 use Rattle.iot_laptop.specs.Seats.{seating}
-use Rattle.iot_standing.proofs.KeptLaws.{KeptLive, left_live, noted_as, repaired_live, resolved_live, told_live}
-use Rattle.iot_standing.proofs.RunsLaws.{live_with, lives_then}
+use Rattle.iot_standing.proofs.KeptLaws.{KeptLive, left_live, noted_as, repaired_live, resolved_live, stands_so, told_live}
+use Rattle.iot_standing.proofs.RunsLaws.{lives_then}
 use Rattle.iot_laptop.proofs.NodesLaws.{Posted, not_both, up_stands, awake_at, fallen_at, at_node}
 use Rattle.iot_laptop.specs.Calls as calls
 
@@ -112,6 +114,12 @@ pub as_is : (r : Result (Unit {0}) Halt) → done r ≡ r
 as_is (Ok it) = refl
 as_is (Err halt) = refl
 
+-- a first step that says nothing
+pub quietly : {M A B : Type 0} {one : Call M A} {next : A → Call M B} {m n : M} {text : List ℕ} {b : B} (a : A) (mid : M) → one m [] a mid
+    → next a mid text b n → Then one next m text b n
+quietly {text = text} a mid first second =
+    record { mid = mid; front = []; rest = text; answer = a; first = first; second = second; whole = refl }
+
 -- ---- a call
 
 -- what each call of a laptop's client says that was to append a record behind so many others
@@ -122,69 +130,37 @@ pub record Behaves {D T : Type 0} (medium : Medium D) (laptop : Laptop D) (was n
   pub counts : CountsFault answer (medium.faults (disk_of was)) (medium.faults (disk_of now))
   pub arms : medium.arms (disk_of now) ≡ medium.arms (disk_of was)
 
--- what is known of a laptop before it, and of a client of the machine
-pub record Before {D : Type 0} (medium : Medium D) (laptop : Laptop D) (scripts : List Declared) (m : machine.Client) : Type 0 where
-  pub name : laptop.name ≡ m.name
-  pub link : laptop.link ≡ m.link
-  pub alive : m.node.alive ≡ true
-  pub node : NodeStands medium laptop m
-  pub named : AreNamed scripts m.node.durable
+-- such a call, and what the laptop makes of its answer
+pub record Called {D T : Type 0} (medium : Medium D) (laptop : Laptop D) (was now : Client D) (answer : Result T ClientFault)
+    (new : Laptop D) (x y : List ℕ) (result : Result T Halt) : Type 0 where
+  pub up : laptop.post ≡ Up (record { client = was })
+  pub was_tied : IsTied medium was
+  pub placed : place_of was ≡ laptop.place
+  pub count : ℕ
+  pub goes : GoesOn medium (record laptop { post = Up (record { client = now }) }) new count answer x y result
+  pub behaves : Behaves medium laptop was now answer count
+  pub open behaves use *
 
--- it was to append this change, and what is known besides if it did
-pub record Noted {D T : Type 0} (medium : Medium D) (was now : Client D) (answer : Result T ClientFault) (change : Change)
-    (known : List Live) : Type 0 where
+pub called : {D T : Type 0} {medium : Medium D} {laptop : Laptop D} {was now : Client D} {answer : Result T ClientFault}
+    {new : Laptop D} {count : ℕ} {x y : List ℕ} {result : Result T Halt} {node : Node ClientState}
+    → UpStands (seating medium laptop.place) medium no_text (record { client = was }) node → laptop.post ≡ Up (record { client = was })
+    → GoesOn medium (record laptop { post = Up (record { client = now }) }) new count answer x y result
+    → Behaves medium laptop was now answer count → Called medium laptop was now answer new x y result
+called it up goes behaves =
+    record { up = up; was_tied = it.stands.tied; placed = it.stands.place_is; count = _; goes = goes; behaves = behaves }
+
+-- what is known of a client of the machine before it, which keeps this state, and of what runs this besides
+pub record Known {D : Type 0} (medium : Medium D) (scripts : List Declared) (s : State) (lives : List Live) (laptop : Laptop D)
+    (m : machine.Client) : Type 0 where
+  pub before : Before medium laptop scripts m
+  pub open before use *
+  pub kept : KeptLive scripts s lives m.first m.node.durable
+
+-- it was to append this change, which leaves what is known besides of what runs
+pub record Noted {D T : Type 0} (medium : Medium D) (was now : Client D) (answer : Result T ClientFault) (change : Change) : Type 0 where
   pub notes : OnOk answer (Notes change was now)
-  pub lives : OnOk answer (live_of now ≡ known)
+  pub lives : OnOk answer (live_of now ≡ live_of was)
   pub stops : IsErrOf answer Stopped → CutsOff change (state_of was) (records_of was) (medium.may_leave (disk_of now))
-
--- what is known of a change by it, from what was kept to what is kept next: if it was done, and if it was stopped
-pub record Fits {D T : Type 0} (medium : Medium D) (was now : Client D) (answer : Result T ClientFault) (scripts : List Declared)
-    (next : ClientState) : Type 0 where
-  pub ok : OnOk answer ((change : Change) × Notes change was now × StateKept (after (state_of was) change) next)
-  pub cut : IsErrOf answer Stopped → (change : Change)
-      × CutsOff change (state_of was) (records_of was) (medium.may_leave (disk_of now))
-      × StateKept (after (state_of was) change) next × AreNamed scripts next
-
--- and what is known besides, with these of first class
-pub record FitsLive {D T : Type 0} (medium : Medium D) (was now : Client D) (answer : Result T ClientFault) (scripts : List Declared)
-    (next : ClientState) (first : List ℕ) : Type 0 where
-  pub fits : Fits medium was now answer scripts next
-  pub live : OnOk answer ((live_of now ≡ live_with first next.running) × AreNamed scripts next)
-
--- the call as one of the keeper of a node
-appended_by : {D T : Type 0} {medium : Medium D} {laptop : Laptop D} {was now : Client D} {count : ℕ} {scripts : List Declared}
-    {m : ClientState} (place : ℕ) (answer : Result T ClientFault) (change : ClientState → ClientState)
-    → Fits medium was now answer scripts (change m) → Behaves medium laptop was now answer count
-    → Appended (seating medium place) medium change m (record { client = was }) (record { client = now }) (appended answer)
-appended_by {medium = medium} {was = was} {now = now} {m = m} place (Ok t) change fits behaves = (
-  (λ n seat. record {
-    place_is = fits.ok.1.place ∙ seat.place_is;
-    tied = behaves.tied;
-    counted = fits.ok.1.records ∙ ap next seat.counted;
-    kept = subst (λ (s : State). StateKept s (change m)) (sym fits.ok.1.state) fits.ok.2;
-  }),
-  same_counts medium (disk_of was) (disk_of now) behaves.counts behaves.arms,
-)
-appended_by {medium = medium} {was = was} {now = now} place (Err Stopped) change fits behaves =
-    let cut = fits.cut refl in (
-      -- each image is what the client keeps, without the record or with it
-      (λ n seat. record {
-        each = λ image left. elim (cut.1.either.each image left) [
-          | inl before ↦ inl (record {
-            state = state_of was;
-            stands = subst (λ (k : ℕ). StandWith image k (state_of was)) seat.counted before;
-            kept = seat.kept;
-          })
-          | inr more ↦ inr (record {
-            state = after (state_of was) cut.0;
-            stands = subst (λ (k : ℕ). StandWith image (next k) (after (state_of was) cut.0)) seat.counted more;
-            kept = cut.2;
-          })
-        ];
-      }),
-      record { faults = behaves.counts; arms = behaves.arms },
-    )
-appended_by place (Err other) change fits behaves = tt
 
 -- ---- what is said of the first that waits
 
@@ -197,194 +173,217 @@ said_as reads reply (serving.Conflict place question) said spells only read = cc
 -- ---- a call of this laptop
 
 module _ {D T : Type 0} {medium : Medium D} {laptop : Laptop D} {was now : Client D} {answer : Result T ClientFault} {new : Laptop D}
-    {count : ℕ} {x y : List ℕ} {result : Result T Halt} (up : laptop.post ≡ Up (record { client = was }))
-    (goes : GoesOn medium (record laptop { post = Up (record { client = now }) }) new count answer x y result)
-    (behaves : Behaves medium laptop was now answer count) where
+    {x y : List ℕ} {result : Result T Halt} (call : Called medium laptop was now answer new x y result) where
   abbrev s : State
   s = state_of was
 
   abbrev cuts : Change → Type 0
   cuts change = CutsOff change s (records_of was) (medium.may_leave (disk_of now))
 
-  was_up : {scripts : List Declared} {m : machine.Client} → Before medium laptop scripts m
-      → UpStands (seating medium laptop.place) medium no_text (record { client = was }) m.node
-  was_up known = rw up at known.node
-
   -- it answered this
   pub answered_so : (t : T) → result ≡ Ok t → answer ≡ Ok t
-  answered_so t same = IfOk-at_ok _ same goes.answers
+  answered_so t same = IfOk-at_ok _ same call.goes.answers
 
-  -- ---- for each client of the machine of which this is known
+  -- ---- it notes this change, or stops in that, and what is so before it is known
 
-  module _ (scripts : List Declared) (stands : Laptop D → machine.Client → Type 0) (change : ClientState → ClientState)
-      (each : (m : machine.Client) → stands laptop m → Before medium laptop scripts m
-      × Fits medium was now answer scripts (change m.node.durable)) where
-    answered : (m : machine.Client) → stands laptop m → (r : Result T Halt) → result ≡ r
-        → Answered (StepsFrom (Posted medium laptop) (Appends laptop.name change) m.node new.post x y) (appended answer) r
-    answered m here r same =
-        let known = each m here in
+  module _ (scripts : List Declared) (stands : Laptop D → machine.Client → Type 0) (next : ClientState → ClientState)
+      (before : (m : machine.Client) → stands laptop m → Before medium laptop scripts m) (change : Change)
+      (kept : (m : machine.Client) → stands laptop m → CanFollow s change
+      → StateKept (after s change) (next m.node.durable) × AreNamed scripts (next m.node.durable)) where
+    answered : (m : machine.Client) → stands laptop m
+        → Appended (seating medium laptop.place) medium next m.node.durable (record { client = was }) (record { client = now })
+        (appended answer) → (r : Result T Halt) → result ≡ r
+        → Answered (StepsFrom (Posted medium laptop) (Appends laptop.name next) m.node new.post x y) (appended answer) r
+    answered m here appends r same =
         rw (sym same)
-        (goes.step (record { client = was }) (record { client = now }) change m.node refl (was_up known.0)
-        (appended_by laptop.place answer change known.1 behaves)
-        (behaves.counted ∙ ap records_by up))
+        (call.goes.step (record { client = was }) (record { client = now }) next m.node refl (rw call.up at (before m here).node) appends
+        (call.counted ∙ ap records_by call.up))
 
     -- it went on, to where this stands
-    pub goes_at : {after_it : Laptop D → machine.Client → Type 0} (t : T) → result ≡ Ok t
-        → ((m : machine.Client) → stands laptop m → (post : Post (Seated D) D) → Posted medium laptop post (changed change m.node)
-        → live_by post ≡ live_of now
-        → after_it (record laptop { post = post }) (record m { node = changed change m.node }))
-        → StepsTo stands after_it (Writes change) laptop new x y true
-    goes_at {after_it} t same stand =
-        subst (λ (l : Laptop D). StepsTo stands after_it (Writes change) laptop l x y true) (sym goes.rest)
-        (at_node medium laptop new.post (λ name. Appends name change) (λ m. m.name) x y true
-        (λ m here. ((each m here).0.name, (answered m here (Ok t) same).1))
+    pub goes_at : {after_it : Laptop D → machine.Client → Type 0} (t : T) → result ≡ Ok t → Notes change was now
+        → ((m : machine.Client) → stands laptop m → (post : Post (Seated D) D) → Posted medium laptop post (changed next m.node)
+        → live_by post ≡ live_of now → after_it (record laptop { post = post }) (record m { node = changed next m.node }))
+        → StepsTo stands after_it (Writes next) laptop new x y true
+    goes_at {after_it} t same note stand =
+        let ok : answer ≡ Ok t = answered_so t same in
+        subst (λ (l : Laptop D). StepsTo stands after_it (Writes next) laptop l x y true) (sym call.goes.rest)
+        (at_node medium laptop new.post (λ name. Appends name next) (λ m. m.name) x y true
+        (λ m here. (
+          (before m here).name,
+          (answered m here (rw ok (
+            (λ n seat. record {
+              place_is = note.place ∙ seat.place_is;
+              tied = IfOk-at_ok _ ok call.tied;
+              counted = note.records ∙ ap next_count seat.counted;
+              kept = subst (λ (s : State). StateKept s (next m.node.durable)) (sym note.state) (kept m here note.follows).0;
+            }),
+            same_counts medium (disk_of was) (disk_of now) (rw ok at call.counts) call.arms,
+          )) (Ok t) same).1,
+        ))
         (λ m here n text step there.
-        let live : live_by new.post ≡ live_of now = ap (λ (l : Laptop D). live_by l.post) (IfOk-at_ok _ same goes.same) in
-        let went : n ≡ changed change m.node = elim step [ inl it ↦ it.2 | inr stop ↦ absurd (not_both stop.1) ] in
+        let went : n ≡ changed next m.node = elim step [ inl it ↦ it.2 | inr stop ↦ absurd (not_both stop.1) ] in
         subst (λ (n : Node ClientState). after_it (record laptop { post = new.post }) (record m { node = n })) (sym went)
-        (stand m here new.post (subst (Posted medium laptop new.post) went there) live)))
+        (stand m here new.post (subst (Posted medium laptop new.post) went there)
+        (ap (λ (l : Laptop D). live_by l.post) (IfOk-at_ok _ same call.goes.same)))))
 
-    -- or it stopped in that
-    pub halts_at : result ≡ Err Over → StepsTo stands (ClientStands medium scripts) (Writes change) laptop new x y false
-    halts_at same =
-        subst (λ (l : Laptop D). StepsTo stands (ClientStands medium scripts) (Writes change) laptop l x y false) (sym goes.rest)
-        (at_node medium laptop new.post (λ name. Appends name change) (λ m. m.name) x y false
-        (λ m here. ((each m here).0.name, answered m here (Err Over) same))
+    -- or it stopped in that: each image is what the client keeps, without the record or with it
+    pub halts_at : result ≡ Err Over → cuts change → StepsTo stands (ClientStands medium scripts) (Writes next) laptop new x y false
+    halts_at same cut =
+        let stopped : answer ≡ Err Stopped = call.goes.stopped same in
+        subst (λ (l : Laptop D). StepsTo stands (ClientStands medium scripts) (Writes next) laptop l x y false) (sym call.goes.rest)
+        (at_node medium laptop new.post (λ name. Appends name next) (λ m. m.name) x y false
+        (λ m here. (
+          (before m here).name,
+          answered m here (rw stopped (
+            (λ n seat. record {
+              each = λ image left. elim (cut.either.each image left) [
+                | inl before ↦ inl (record {
+                  state = s;
+                  stands = subst (λ (k : ℕ). StandWith image k s) seat.counted before;
+                  kept = seat.kept;
+                })
+                | inr more ↦ inr (record {
+                  state = after s change;
+                  stands = subst (λ (k : ℕ). StandWith image (next_count k) (after s change)) seat.counted more;
+                  kept = (kept m here cut.follows).0;
+                })
+              ];
+            }),
+            record { faults = rw stopped at call.counts; arms = call.arms },
+          )) (Err Over) same,
+        ))
         (λ m here n text step there.
-        let known = each m here in
+        let known = before m here in
         let down : n.alive ≡ false = elim step [
           | inl it ↦ absurd (not_both (sym it.1))
           | inr stop ↦ ap (λ (n : Node ClientState). n.alive) stop.2.is
         ] in
-        fallen_at medium scripts laptop m known.0.name known.0.link new.post n there down
-        (appends_possibly laptop.name change m.node n text false (λ _. (known.1.cut (goes.stopped same)).3)
-        (possibly_sure m.node (was_up known.0).sure known.0.named) step)))
+        let up : UpStands (seating medium laptop.place) medium no_text (record { client = was }) m.node = rw call.up at known.node in
+        fallen_at medium scripts laptop m known.name known.link new.post n there down
+        (appends_possibly laptop.name next m.node n text false (λ _. (kept m here cut.follows).1)
+        (possibly_sure m.node up.sure known.named) step)))
 
-  -- ---- the same with what is known besides
+  -- ---- the same with what is known besides of what runs
 
-  module _ (scripts : List Declared) (stands : Laptop D → machine.Client → Type 0) (change : ClientState → ClientState)
-      (class : List ℕ → List ℕ)
-      (each : (m : machine.Client) → stands laptop m → Before medium laptop scripts m
-      × FitsLive medium was now answer scripts (change m.node.durable) (class m.first)) where
-    abbrev Classed : Laptop D → machine.Client → Type 0
-    Classed l m = LaptopStands medium scripts l (record m { first = class m.first })
+  module _ (scripts : List Declared) (lives later : List Live) (next : ClientState → ClientState) (class : List ℕ → List ℕ)
+      (change : Change) (kept : (m : machine.Client) → Known medium scripts s lives laptop m → CanFollow s change
+      → KeptLive scripts (after s change) later (class m.first) (next m.node.durable)) where
+    kept_then : (m : machine.Client) → Known medium scripts s lives laptop m → CanFollow s change
+        → StateKept (after s change) (next m.node.durable) × AreNamed scripts (next m.node.durable)
+    kept_then m here follows = let it = kept m here follows in (it.kept, it.named)
 
-    fits_each : (m : machine.Client) → stands laptop m → Before medium laptop scripts m
-        × Fits medium was now answer scripts (change m.node.durable)
-    fits_each m here = ((each m here).0, (each m here).1.fits)
-
-    pub notes_at : (t : T) → result ≡ Ok t → StepsTo stands Classed (NotesAlone change) laptop new x y (Some tt)
-    notes_at t same =
+    pub notes_at : (t : T) → result ≡ Ok t → Notes change was now → live_of now ≡ later
+        → StepsTo (Known medium scripts s lives) (λ l m. LaptopStands medium scripts l (record m { first = class m.first }))
+        (NotesAlone next) laptop new x y (Some tt)
+    notes_at t same note live =
         bind laptop new new x y y true (Some tt)
-        (goes_at scripts stands change fits_each {after_it = Classed} t same (λ m here post there live.
-        let known = each m here in
-        let it = IfOk-at_ok _ (answered_so t same) known.1.live in
-        awake_at medium scripts laptop m known.0.name known.0.link post (changed change m.node) there known.0.alive (class m.first)
-        (live ∙ it.0) it.1))
+        (goes_at scripts (Known medium scripts s lives) next (λ m here. here.before) change kept_then
+        {after_it = λ l m. LaptopStands medium scripts l (record m { first = class m.first })} t same note (λ m here post there is.
+        let it = kept m here note.follows in
+        awake_at medium scripts laptop m here.name here.link post (changed next m.node) there here.alive (class m.first)
+        (is ∙ live ∙ it.runs) it.named))
         (answers new new y (Some tt) (λ m here. here))
 
-    pub notes_halt : result ≡ Err Over → StepsTo stands (ClientStands medium scripts) (NotesAlone change) laptop new x y None
-    notes_halt same =
-        bind laptop new new x y y false None (halts_at scripts stands change fits_each same) (answers new new y None (λ m here. here))
+    pub notes_halt : result ≡ Err Over → cuts change
+        → StepsTo (Known medium scripts s lives) (ClientStands medium scripts) (NotesAlone next) laptop new x y None
+    notes_halt same cut =
+        bind laptop new new x y y false None
+        (halts_at scripts (Known medium scripts s lives) next (λ m here. here.before) change kept_then same cut)
+        (answers new new y None (λ m here. here))
 
-  -- ---- what was so before
+  -- ---- one that has not yielded
 
-  module _ (scripts : List Declared) (m : machine.Client) (here : LaptopStands medium scripts laptop m) where
-    pub stands_was : StateStands s (live_of was) m.first m.node.durable
-    stands_was = rw up at here.state
+  pub known_was : (scripts : List Declared) (m : machine.Client) → LaptopStands medium scripts laptop m
+      → Known medium scripts s (live_of was) laptop m
+  known_was scripts m here =
+      let stands : StateStands s (live_of was) m.first m.node.durable = rw call.up at here.state in
+      let up = up_stands medium scripts laptop m was call.up here in
+      record {
+        before = record { name = here.name; link = here.link; alive = here.alive; node = here.node; named = here.named };
+        kept = record {
+          kept = up.stands.kept;
+          runs = lives_then s.running (live_of was) m.first m.node.durable.running stands.running;
+          named = here.named;
+        };
+      }
 
-    pub known_was : KeptLive scripts s (live_of was) m.first m.node.durable
-    known_was = record {
-      kept = (up_stands medium scripts laptop m was up here).stands.kept;
-      runs = lives_then s.running (live_of was) m.first m.node.durable.running stands_was.running;
-      named = here.named;
-    }
+  pub from_known : {A : Type 0} {after_it : Laptop D → machine.Client → Type 0} {does : Call machine.Client A} (scripts : List Declared)
+      (l : Laptop D) (z : List ℕ) (a : A) → StepsTo (Known medium scripts s (live_of was)) after_it does laptop l x z a
+      → StepsTo (LaptopStands medium scripts) after_it does laptop l x z a
+  from_known scripts l z a steps = record { step = λ m here. steps.step m (known_was scripts m here) }
 
-    pub before : Before medium laptop scripts m
-    before = record { name = here.name; link = here.link; alive = here.alive; node = here.node; named = here.named }
-
-  -- ---- a change of the client of the machine
-
-  -- one change, done or cut off
-  pub fits_with : (scripts : List Declared) (next : ClientState) (first : List ℕ) (change : Change) (lives : List Live)
-      → Noted medium was now answer change lives → (CanFollow s change → KeptLive scripts (after s change) lives first next)
-      → FitsLive medium was now answer scripts next first
-  fits_with scripts next first change lives noted known = record {
-    fits = record {
-      ok = IfOk-weaker answer _ _ (λ t note. (change, note, (known note.follows).kept)) noted.notes;
-      cut = λ stopped.
-          let cut = noted.stops stopped in
-          let it = known cut.follows in
-          (change, cut, it.kept, it.named);
-    };
-    live = if_two answer noted.notes noted.lives (λ t note same. let it = known note.follows in (same ∙ it.runs, it.named));
-  }
+  alone_by : (scripts : List Declared) (next : ClientState → ClientState)
+      → ((t : T) → result ≡ Ok t
+      → StepsTo (Known medium scripts s (live_of was)) (LaptopStands medium scripts) (NotesAlone next) laptop new x y (Some tt))
+      → (result ≡ Err Over
+      → StepsTo (Known medium scripts s (live_of was)) (ClientStands medium scripts) (NotesAlone next) laptop new x y None)
+      → EndsAlone medium scripts (NotesAlone next) laptop new x y (done result)
+  alone_by scripts next went over = record { is = by result refl }
+    where
+      by : (r : Result T Halt) → result ≡ r
+          → EndsBy (LaptopStands medium scripts) (ClientStands medium scripts) (NotesAlone next) laptop new x y (done r)
+      by (Ok t) same = from_known scripts new y (Some tt) (went t same)
+      by (Err NoMemory) same = tt
+      by (Err Over) same = from_known scripts new y None (over same)
 
   -- by a call that notes this change, or stops in that
-  ends_alone : (scripts : List Declared) (change : ClientState → ClientState)
-      → ((m : machine.Client) → LaptopStands medium scripts laptop m → KeptLive scripts s (live_of was) m.first m.node.durable
-      → FitsLive medium was now answer scripts (change m.node.durable) m.first)
-      → EndsAlone medium scripts (NotesAlone change) laptop new x y (done result)
-  ends_alone scripts change each = record { is = by result refl }
-    where
-      fits : (m : machine.Client) → LaptopStands medium scripts laptop m → Before medium laptop scripts m
-          × FitsLive medium was now answer scripts (change m.node.durable) m.first
-      fits m here = (before scripts m here, each m here (known_was scripts m here))
-
-      by : (r : Result T Halt) → result ≡ r
-          → EndsBy (LaptopStands medium scripts) (ClientStands medium scripts) (NotesAlone change) laptop new x y (done r)
-      by (Ok t) same = notes_at scripts (LaptopStands medium scripts) change (λ b. b) fits t same
-      by (Err NoMemory) same = tt
-      by (Err Over) same = notes_halt scripts (LaptopStands medium scripts) change (λ b. b) fits same
-
-  -- the same of each client for which it stood
-  pub alone : (scripts : List Declared) (other : ClientState → ClientState) (change : Change) (lives : List Live)
-      → Noted medium was now answer change lives
-      → ((m : machine.Client) → KeptLive scripts s (live_of was) m.first m.node.durable → CanFollow s change
-      → KeptLive scripts (after s change) lives m.first (other m.node.durable))
-      → EndsAlone medium scripts (NotesAlone other) laptop new x y (done result)
-  alone scripts other change lives noted known =
-      ends_alone scripts other
-      (λ m here was. fits_with scripts (other m.node.durable) m.first change lives noted (known m was))
+  alone : (scripts : List Declared) (next : ClientState → ClientState) (change : Change) → Noted medium was now answer change
+      → ((m : machine.Client) → Known medium scripts s (live_of was) laptop m → CanFollow s change
+      → KeptLive scripts (after s change) (live_of was) m.first (next m.node.durable))
+      → EndsAlone medium scripts (NotesAlone next) laptop new x y (done result)
+  alone scripts next change noted kept =
+      alone_by scripts next
+      (λ t same.
+      let ok = answered_so t same in
+      notes_at scripts (live_of was) (live_of was) next (λ b. b) change kept t same (IfOk-at_ok _ ok noted.notes)
+      (IfOk-at_ok _ ok noted.lives))
+      (λ same. notes_halt scripts (live_of was) (live_of was) next (λ b. b) change kept same (noted.stops (call.goes.stopped same)))
 
   -- the first that waits leaves
-  pub leaves : Noted medium was now answer Left (live_of was) → Changes medium leave laptop new x y (done result)
-  leaves noted scripts = alone scripts leave Left (live_of was) noted (λ m here. left_live here)
+  pub leaves : Noted medium was now answer Left → Changes medium leave laptop new x y (done result)
+  leaves noted scripts = alone scripts leave Left noted (λ m here. left_live here.kept)
+
+  -- a repair
+  pub repairs : (name : List ℕ) → Noted medium was now answer (Repaired name) → Repairs medium name laptop new x y (done result)
+  repairs name noted scripts script named same =
+      alone scripts (repair script) (Repaired name) noted (λ m here follows. repaired_live here.kept name script same named)
 
   -- the change by the tree that the reply makes
-  pub brings : {purpose : Purpose} {other : Nodes → ClientState → ClientState} {reply : List ℕ}
-      → IsTied medium was → ReadsObjects reply → OnOk answer (Brings purpose reply was now) → OnOk answer (live_of now ≡ live_of was)
+  pub brings : {purpose : Purpose} {other : Nodes → ClientState → ClientState} {reply : List ℕ} → ReadsObjects reply
+      → OnOk answer (Brings purpose reply was now) → OnOk answer (live_of now ≡ live_of was)
       → (IsErrOf answer Stopped
       → CutsOffByTree purpose reply (stamps_of was) s (records_of was) (medium.may_leave (disk_of now)))
       → ((scripts : List Declared) (first : List ℕ) (m : ClientState) → KeptLive scripts s (live_of was) first m → (t : Nodes)
       → CanFollow s (brought_for purpose t) → IsTree t → IsSpelledTree t
       → KeptLive scripts (after s (brought_for purpose t)) (live_of was) first (other t m))
       → (t : Nodes) → SpellsTree (base_for purpose (stamps_in laptop)) reply t → Changes medium (other t) laptop new x y (done result)
-  brings {purpose} {other} {reply} tied only brought_by lives stops known t spells_it scripts =
+  brings {purpose} {other} {reply} only brought_by lives stops known t spells_it scripts =
       let base : Stamps = base_for purpose (stamps_of was) in
-      let spells : SpellsTree base reply t =
-      subst (λ (held : Stamps). SpellsTree (base_for purpose held) reply t) (ap stamps_by up) spells_it in
+      let spells : SpellsTree base reply t = rw call.up at spells_it in
       let is : (read : RowChanges) → objects_in reply ≡ Ok read → bringing purpose (stamps_of was) read ≡ brought_for purpose t =
       λ read of. ap (brought_for purpose) (spelled_changes read only of spells) in
       let rows : IsTreeOfRows t =
       subst IsTreeOfRows (sym spells.is)
       (brought_spelled base spells.changes
-      (base_spelled purpose (stamps_of was) (synced_spelled medium was.kept tied.synced).held) spells.spelled.value
+      (base_spelled purpose (stamps_of was) (synced_spelled medium was.kept call.was_tied.synced).held) spells.spelled.value
       (subst IsTree spells.is spells.tree)) in
-      alone scripts (other t) (brought_for purpose t) (live_of was)
+      alone scripts (other t) (brought_for purpose t)
       (record {
         notes = IfOk-weaker answer _ _ (λ u it.
             subst (λ (change : Change). Notes change was now) (is it.changes it.read) it.notes) brought_by;
         lives = lives;
         stops = λ stopped. let it = stops stopped in subst cuts (is it.changes it.read) it.cuts_off;
       })
-      (λ m here follows. known scripts m.first m.node.durable here t follows spells.tree (tree_spelled t rows))
+      (λ m here follows. known scripts m.first m.node.durable here.kept t follows spells.tree (tree_spelled t rows))
 
-  -- a repair
-  pub repairs : (name : List ℕ) → Noted medium was now answer (Repaired name) (live_of was)
-      → Repairs medium name laptop new x y (done result)
-  repairs name noted scripts script named same =
-      alone scripts (repair script) (Repaired name) (live_of was) noted (λ m here follows. repaired_live here name script same named)
+  -- of a reply by which nothing but the held tree changes
+  pub holds_beside : (purpose : Purpose) (reply : List ℕ) → OnOk answer (Brings purpose reply was now)
+      → ((t : Nodes) → after s (brought_for purpose t) ≡ record s { held = t })
+      → OnOk result (((state_in new).items ≡ (state_in laptop).items) × ((state_in new).running ≡ (state_in laptop).running))
+  holds_beside purpose reply brought_by holds = if_two result call.goes.same call.goes.answers (λ u same was_so.
+      let notes = (IfOk-at_ok _ was_so brought_by).notes in
+      let is : state_in new ≡ record s { held = _ } = ap state_in same ∙ notes.state ∙ holds _ in
+      rw (is, call.up) (refl, refl))
 
   -- what is said of the first that waits, by its option
   pub takes_verdict : (noted : T → NotedIn) (reply : List ℕ) → ReadsNoted reply → IfOk answer (λ t. noted_in reply ≡ Ok (noted t))
@@ -392,23 +391,19 @@ module _ {D T : Type 0} {medium : Medium D} {laptop : Laptop D} {was now : Clien
       → (IsErrOf answer Stopped → CutsOffByVerdict reply s (records_of was) (medium.may_leave (disk_of now)))
       → TakesVerdict medium reply laptop new x y (done result)
   takes_verdict noted reply only reads notes lives stops told option spells first scripts =
-      let spelled = rw up at spells in
-      let is_first = rw up at first in
-      alone scripts (told_change told option) (verdict_change (noted_as told)) (live_of was)
+      let is : (said : NotedIn) → noted_in reply ≡ Ok said → said ≡ noted_as told =
+      λ said. said_as (head_reads s.items) reply told said (rw call.up at spells) only in
+      alone scripts (told_change told option) (verdict_change (noted_as told))
       (record {
         notes = if_two answer reads notes (λ t read it.
-            subst (λ (said : NotedIn). Notes (verdict_change said) was now)
-            (said_as (head_reads s.items) reply told (noted t) spelled only read) it);
+            subst (λ (said : NotedIn). Notes (verdict_change said) was now) (is (noted t) read) it);
         lives = lives;
         stops = λ stopped.
-            let cut = stops stopped in
-            subst (λ (said : NotedIn). cuts (verdict_change said)) (said_as (head_reads s.items) reply told cut.said spelled only cut.noted)
-            cut.cuts_off;
+            let cut = stops stopped in subst (λ (said : NotedIn). cuts (verdict_change said)) (is cut.said cut.noted) cut.cuts_off;
       })
-      (λ m here. told_live here told option is_first)
+      (λ m here. told_live here.kept told option (rw call.up at first))
 
-  -- ---- a resolution
-
+  -- a resolution
   pub resolves : (reply : List ℕ) (code : Code) → IsScript code → ReadsObjects reply → OnOk answer (Resolves reply code was now)
       → OnOk answer (live_of now ≡ live_of was)
       → (IsErrOf answer Stopped → CutsOffByRun reply code s (records_of was) (medium.may_leave (disk_of now)))
@@ -416,29 +411,26 @@ module _ {D T : Type 0} {medium : Medium D} {laptop : Laptop D} {was now : Clien
       → plan.script.code ≡ code → calls.Resolves medium scripts plan t laptop new x y (done result)
   resolves reply code script only ran lives stops t spells scripts plan plans same =
       let stage : clients.Stage = clients.Resolved (resolution_of plan t) in
-      ends_alone scripts (reach stage) (λ m here known.
-      let live : (done : Resolution) → IsHeadsRun s.held s.items code t done
+      let kept : (done : Resolution) → IsHeadsRun s.held s.items code t done → (m : machine.Client)
+      → Known medium scripts s (live_of was) laptop m → CanFollow s (Resolved done (access_of done.acts t))
       → KeptLive scripts (after s (Resolved done (access_of done.acts t))) (live_of was) m.first (reach stage m.node.durable) =
-      resolved_live known plan (plans m here) code same script t spells.tree in
-      let reran : (it : Resolves reply code was now) → Reruns code t was now =
-      λ it. subst (λ (u : Nodes). Reruns code u was now) (spelled_changes it.changes only it.read spells) it.reruns in
-      record {
-        fits = record {
-          ok = IfOk-weaker answer _ _ (λ u it.
-              let reruns = reran it in
-              (Resolved reruns.done (access_of reruns.done.acts t), reruns.notes, (live reruns.done reruns.run).kept)) ran;
-          cut = λ stopped.
-              let it = stops stopped in
-              let rerun = subst (λ (u : Nodes). CutsOffRerun code u s (records_of was) (medium.may_leave (disk_of now)))
-              (spelled_changes it.changes only it.read spells) it.reruns in
-              let kept = live rerun.done rerun.run in
-              (Resolved rerun.done (access_of rerun.done.acts t), rerun.cuts_off, kept.kept, kept.named);
-        };
-        live = if_two answer ran lives (λ u it lives.
-            let reruns = reran it in
-            let kept = live reruns.done reruns.run in
-            (lives ∙ kept.runs, kept.named));
-      })
+      λ done run m here follows.
+      let state : StateStands (state_in laptop) (live_in laptop) m.first m.node.durable = rw call.up (stands_so here.kept) in
+      resolved_live here.kept plan (plans m (search rules)) code same script t spells.tree done run in
+      alone_by scripts (reach stage)
+      (λ u ok.
+      let it = IfOk-at_ok _ (answered_so u ok) ran in
+      let reran : Reruns code t was now =
+      subst (λ (u : Nodes). Reruns code u was now) (spelled_changes it.changes only it.read spells) it.reruns in
+      notes_at scripts (live_of was) (live_of was) (reach stage) (λ b. b) (Resolved reran.done (access_of reran.done.acts t))
+      (kept reran.done reran.run) u ok reran.notes (IfOk-at_ok _ (answered_so u ok) lives))
+      (λ over.
+      let it = stops (call.goes.stopped over) in
+      let cut : CutsOffRerun code t s (records_of was) (medium.may_leave (disk_of now)) =
+      subst (λ (u : Nodes). CutsOffRerun code u s (records_of was) (medium.may_leave (disk_of now)))
+      (spelled_changes it.changes only it.read spells) it.reruns in
+      notes_halt scripts (live_of was) (live_of was) (reach stage) (λ b. b) (Resolved cut.done (access_of cut.done.acts t))
+      (kept cut.done cut.run) over cut.cuts_off)
 
 -- ---- its disk
 

@@ -1,9 +1,9 @@
 -- What is known of a client by its node.
-use Rattle.std.proofs.Common.{◌≡◌, ℕ, true, false, List, refl, sym, ap, subst, ◌∙◌, rules}
+use Rattle.std.proofs.Common.{◌≡◌, ℕ, Bool, true, false, List, refl, sym, ap, subst, ◌∙◌, rules}
 use Rattle.iot_laptop.specs.Below.{Client, Medium, Declared, ClientState, Call, At, Node}
 use Rattle.iot_laptop.specs.Below.{Possibly, PostStands, UpStands, StepsFrom, StepsTo, Post, Up, Down, Between, no_text, Laptop, Seated}
 use Rattle.iot_machine.proofs.PossiblyLaws.{possibly_sure}
-use Rattle.iot_node.proofs.PostsLaws.{on_has, on_is}
+use Rattle.iot_node.proofs.PostsLaws.{on_is}
 use Rattle.iot_machine.specs.Machine as machine
 use Rattle.iot_standing.specs.Kept.{StateKept}
 use Rattle.iot_laptop.specs.Laptops.{LaptopStands, FallenStands, ClientStands, awake, fallen, Stands, StandsAnyhow, IsLent, state_by}
@@ -17,20 +17,22 @@ use Rattle.iot_standing.proofs.RunsLaws.{are_begun, live_with}
 pub not_both : true ≡ false → ⊥
 not_both e = cc
 
--- a laptop with this post is the laptop
-pub at_post : {D : Type 0} (laptop : Laptop D) (post : Post (Seated D) D) → laptop.post ≡ post → record laptop { post = post } ≡ laptop
-at_post laptop post is = ap (λ (p : Post _ _). record laptop { post = p }) (sym is)
-
 -- a laptop with this post is over this node
 abbrev pub Posted : {D : Type 0} → Medium D → Laptop D → Post (Seated D) D → Node ClientState → Type 0
 Posted medium laptop = PostStands (seating medium laptop.place) medium no_text
 
--- what is kept of one that is alive
+-- one that is alive has a keeper
+pub keeper_of : {D : Type 0} (medium : Medium D) (place : ℕ) (post : Post (Seated D) D) (node : Node ClientState)
+    → PostStands (seating medium place) medium no_text post node → node.alive ≡ true
+    → (seated : Seated D) × (post ≡ Up seated) × UpStands (seating medium place) medium no_text seated node
+keeper_of medium place (Up seated) node here up = (seated, refl, here)
+keeper_of medium place (Down down) node here up = absurd (not_both (sym up ∙ here.alive))
+keeper_of medium place Between node here up = absurd here
+
+-- what is kept of it
 pub kept_up : {D : Type 0} (medium : Medium D) (place : ℕ) (post : Post (Seated D) D) (node : Node ClientState)
     → PostStands (seating medium place) medium no_text post node → node.alive ≡ true → StateKept (state_by post) node.durable
-kept_up medium place (Up seated) node here up = here.stands.kept
-kept_up medium place (Down down) node here up = absurd (not_both (sym up ∙ here.alive))
-kept_up medium place Between node here up = absurd here
+kept_up medium place post node here up = let it = keeper_of medium place post node here up in rw it.1 it.2.stands.kept
 
 module _ {D : Type 0} (medium : Medium D) where
   module _ (scripts : List Declared) (laptop : Laptop D) (m : machine.Client) where
@@ -43,18 +45,21 @@ module _ {D : Type 0} (medium : Medium D) where
     pub is_down : FallenStands medium scripts laptop m → is_alive laptop ≡ false
     is_down here = sym (node_is here.node) ∙ here.alive
 
-    -- one that is alive stands so
-    pub awake_stands : is_alive laptop ≡ true → ClientStands medium scripts laptop m → LaptopStands medium scripts laptop m
-    awake_stands up (awake here) = here
-    awake_stands up (fallen here) = absurd (not_both (sym up ∙ is_down here))
-
-    pub fallen_stands : is_alive laptop ≡ false → ClientStands medium scripts laptop m → FallenStands medium scripts laptop m
-    fallen_stands down (awake here) = absurd (not_both (sym (is_awake here) ∙ down))
-    fallen_stands down (fallen here) = here
+    -- one whose node is alive stands so
+    pub alive_stands : m.node.alive ≡ true → ClientStands medium scripts laptop m → LaptopStands medium scripts laptop m
+    alive_stands up (awake here) = here
+    alive_stands up (fallen here) = absurd (not_both (sym up ∙ here.alive))
 
     pub node_stands : ClientStands medium scripts laptop m → NodeStands medium laptop m
     node_stands (awake here) = here.node
     node_stands (fallen here) = here.node
+
+    pub awake_stands : is_alive laptop ≡ true → ClientStands medium scripts laptop m → LaptopStands medium scripts laptop m
+    awake_stands up here = alive_stands (node_is (node_stands here) ∙ up) here
+
+    pub fallen_stands : is_alive laptop ≡ false → ClientStands medium scripts laptop m → FallenStands medium scripts laptop m
+    fallen_stands down (awake here) = absurd (not_both (sym (is_awake here) ∙ down))
+    fallen_stands down (fallen here) = here
 
     pub same_name : ClientStands medium scripts laptop m → laptop.name ≡ m.name
     same_name (awake here) = here.name
@@ -67,32 +72,12 @@ module _ {D : Type 0} (medium : Medium D) where
     -- it is the keeper of its node
     pub up_stands : (it : Client D) → laptop.post ≡ Up (record { client = it }) → LaptopStands medium scripts laptop m
         → UpStands (seating medium laptop.place) medium no_text (record { client = it }) m.node
-    up_stands it is here = subst (λ (p : Post (Seated D) D). Posted medium laptop p m.node) is here.node
-
-    up_at : LaptopStands medium scripts laptop m → (seated : Seated D) × (laptop.post ≡ Up seated)
-    up_at here = on_has laptop.post (is_awake here)
-
-    -- what is on its disk
-    pub kept_in : LaptopStands medium scripts laptop m → StateKept (state_in laptop) m.node.durable
-    kept_in here = kept_up medium laptop.place laptop.post m.node here.node here.alive
+    up_stands it is here = rw is at here.node
 
     pub may_be_named : ClientStands medium scripts laptop m → Possibly (AreNamed scripts) m.node
     may_be_named (awake here) =
-        let up = up_at here in possibly_sure m.node (up_stands up.0.client up.1 here).sure here.named
+        possibly_sure m.node (keeper_of medium laptop.place laptop.post m.node here.node here.alive).2.sure here.named
     may_be_named (fallen here) = here.named
-
-    lent_stands : (it : Client D) → laptop.post ≡ Up (record { client = it }) → LaptopStands medium scripts laptop m
-        → IsLent medium laptop it
-    lent_stands it is here =
-        let up = up_stands it is here in
-        record {
-          post = is;
-          state = sym (ap state_by is);
-          live = sym (ap live_by is);
-          place = up.stands.place_is;
-          tied = up.stands.tied;
-          begun = rw is at (are_begun (state_in laptop).running (live_in laptop) m.first m.node.durable.running here.state.running);
-        }
 
     -- ---- over another post
 
@@ -109,6 +94,15 @@ module _ {D : Type 0} (medium : Medium D) where
           → ClientStands medium scripts (record laptop { post = post }) (record m { node = n })
       fallen_at down named = fallen (record { name = name; link = link; alive = down; node = stands; named = named })
 
+      -- alive or down
+      pub stands_at : (n.alive ≡ true → live_by post ≡ live_with m.first n.durable.running) → Possibly (AreNamed scripts) n
+          → ClientStands medium scripts (record laptop { post = post }) (record m { node = n })
+      stands_at runs named = by n.alive refl
+        where
+          by : (on : Bool) → n.alive ≡ on → ClientStands medium scripts (record laptop { post = post }) (record m { node = n })
+          by true up = awake (awake_at up m.first (runs up) named.is)
+          by false down = fallen_at down named
+
   pub some_awake : (laptop : Laptop D) → StandsAnyhow medium laptop → is_alive laptop ≡ true → Stands medium laptop
   some_awake laptop some up =
       record { scripts = _; machine = _; stands = awake_stands some.scripts laptop some.machine up some.stands }
@@ -116,7 +110,18 @@ module _ {D : Type 0} (medium : Medium D) where
   -- what is known of the client of one that stands
   pub lent_at : (laptop : Laptop D) (it : Client D) → laptop.post ≡ Up (record { client = it }) → Stands medium laptop
       → IsLent medium laptop it
-  lent_at laptop it is stands = lent_stands stands.scripts laptop stands.machine it is stands.stands
+  lent_at laptop it is stands =
+      let m = stands.machine in
+      let here = stands.stands in
+      let up = up_stands stands.scripts laptop m it is here in
+      record {
+        post = is;
+        state = sym (ap state_by is);
+        live = sym (ap live_by is);
+        place = up.stands.place_is;
+        tied = up.stands.tied;
+        begun = rw is at (are_begun (state_in laptop).running (live_in laptop) m.first m.node.durable.running here.state.running);
+      }
 
 -- ---- a call of a laptop's node
 

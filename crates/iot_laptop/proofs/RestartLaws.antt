@@ -9,20 +9,19 @@ use Rattle.iot_client.specs.Calls.{ChangesClasses}
 use Rattle.iot_client.specs.Ties.{AreRuns, classes_in}
 use Rattle.iot_kept.specs.Rules.{header}
 use Rattle.iot_slots.specs.Decoding.{Decoded, NotStarted, decoded, state_of as encoded_in}
-use Rattle.iot_laptop.specs.Below.{IsTree, Transaction, Live, State, opening, second_class, live_of, IsTied}
+use Rattle.iot_laptop.specs.Below.{IsTree, Transaction, opening, second_class, live_of, state_of, IsTied}
 use Rattle.iot_disk.specs.Disk.{Storing}
 use Rattle.iot_laptop.specs.Below.{Client, Medium, At, Declared, ClientState}
 use Rattle.iot_laptop.specs.Below.{new_client, Node, unopened, Refines, Possibly, OpensNode, stopped_line, KeepsDisk}
-use Rattle.iot_laptop.specs.Below.{counts_on, IsEmpty, is_on, PostStands, CameIf, StepsTo, Post, Up, Down, Between}
+use Rattle.iot_laptop.specs.Below.{counts_on, IsEmpty, is_on, PostStands, CameIf, StepsTo, Post, Up, Down}
 use Rattle.iot_laptop.specs.Below.{no_text, Laptop, Seated, Passage, FarDir}
 use Rattle.iot_link.specs.Links.{LinkState, after_exchange, connected}
 use Rattle.iot_node.proofs.StepsToLaws.{bind, asks, says_this, nothing}
 use Rattle.iot_count.specs.Counts.{Rose}
-use Rattle.iot_machine.specs.Calls.{goes_on, Does}
-use Rattle.iot_machine.specs.Nodes.{armed}
+use Rattle.iot_machine.specs.Calls.{Asks, Does, Part, Then, goes_on}
 use Rattle.iot_machine.specs.Stops.{ComesBack, Crashes, ArmsDisk}
 use Rattle.iot_machine.specs.Texts.{line, disconnect_line}
-use Rattle.iot_machine.proofs.PossiblyLaws.{comes_within, possibly_same, opens_states, crashes_within}
+use Rattle.iot_machine.proofs.PossiblyLaws.{SameStates, comes_within, possibly_same, opens_states, crashes_within}
 use Rattle.iot_node.specs.Posts.{IsStanding, Ready, words_of}
 use Rattle.iot_node.specs.declared.comeback.Comeback.TheVariants.{Restart}
 use Rattle.iot_machine.specs.Events.{CutsOff, RestartsClient, Disconnects, CrashesClient, ArmsClient}
@@ -38,18 +37,19 @@ use Rattle.iot_node.specs.Posts as posts
 use Rattle.iot_link.specs.Links as links
 use Rattle.iot_laptop.specs.Calls.{ReturnedStands, Returned, Came, CutsAll}
 use Rattle.iot_standing.specs.Kept.{RunKept}
-use Rattle.iot_standing.specs.States.{StateStands}
 use Rattle.iot_laptop.specs.Laptops.{LaptopStands, FallenStands, ClientStands, awake, StandsAnyhow, is_alive, disk_by, live_by, all_second}
-use Rattle.iot_laptop.specs.Laptops.{state_by, fallen, Stands, Relinked, Reclassed, IsCutLink, after_passage, IsUnopened, unopened_laptop}
+use Rattle.iot_laptop.specs.Laptops.{state_in, live_in, state_by, fallen, Stands, Relinked, Reclassed, IsCutLink, after_passage, IsUnopened}
+use Rattle.iot_laptop.specs.Laptops.{unopened_laptop}
 use Rattle.iot_standing.specs.Scripts.{AreNamed}
 use Rattle.iot_laptop.specs.Seats.{seating, Besides, begun_of, besides, none_besides, IsClientImage}
 use Rattle.iot_standing.proofs.KeptLaws.{idle_runs}
 use Rattle.iot_standing.proofs.RunsLaws.{live_with, lives_then, none_live}
-use Rattle.iot_laptop.proofs.CallsLaws.{keeps_post}
+use Rattle.iot_laptop.proofs.CallsLaws.{keeps_post, quietly}
 use Rattle.iot_laptop.proofs.ClassesLaws.{all_reclassed}
-use Rattle.iot_laptop.proofs.NodesLaws.{Posted, not_both, kept_up, node_stands, fallen_stands, awake_stands, awake_at, fallen_at, at_node}
+use Rattle.iot_laptop.proofs.NodesLaws.{Posted, not_both, keeper_of, kept_up, node_stands, fallen_stands, awake_stands, fallen_at, at_node}
+use Rattle.iot_laptop.proofs.NodesLaws.{alive_stands, stands_at}
 use Rattle.iot_laptop.proofs.NodesLaws.{same_name, same_link, may_be_named}
-use Rattle.iot_laptop.proofs.SeatsLaws.{begun_all, known_again}
+use Rattle.iot_laptop.proofs.SeatsLaws.{besides_by, besides_fresh, begun_all, known_again}
 use Rattle.iot_laptop.specs.Alone.{OpensClient}
 
 pub not_through : (p : Passage) → (p ≡ Away) ⊎ ((p ≡ RequestLost) ⊎ (p ≡ ReplyLost)) → p ≡ Both → ⊥
@@ -125,112 +125,79 @@ pub cuts_live : {D : Type 0} (medium : Medium D) (laptop : Laptop D) (was now : 
     → live_of now ≡ map second_class (live_of was)
     → IsCutLink medium laptop (record laptop { link = link; post = Up (record { client = now }) })
 cuts_live medium laptop was now link up is same tied second =
-    let over : Laptop _ = record laptop { link = link } in
-    let it : Reclassed medium all_second over (record over { post = Up (record { client = now }) }) =
-    all_reclassed medium over was now up same tied second in
+    let it : Reclassed medium all_second (record laptop { link = link })
+    (record laptop { link = link; post = Up (record { client = now }) }) =
+    all_reclassed medium (record laptop { link = link }) was now up same tied second in
+    let over : Relinked medium machine.cut_off laptop (record laptop { link = link; post = Up (record { client = now }) }) =
+    over_second medium laptop link (record laptop { link = link; post = Up (record { client = now }) })
+    (λ m same. λ i. record m { link = (is ∙ ap (connected false) same) i; first = [] }) it in
     record {
       place = refl;
       name = refl;
-      alive = it.alive;
       stamps = it.stamps;
       disk = it.disk;
-      stands = λ scripts m here.
-          let awake_so : LaptopStands medium scripts laptop m =
-          awake_stands medium scripts laptop m (ap is_on up) here in
-          awake
-          (subst (λ (l : LinkState). LaptopStands medium scripts (record over { post = Up (record { client = now }) })
-          (record m { link = l; first = [] })) (is ∙ ap (connected false) awake_so.link)
-          (it.stands scripts (record m { link = link }) (over_link medium laptop link scripts m awake_so)));
+      stands = λ scripts m here. awake (over.stands scripts m (awake_stands medium scripts laptop m (ap is_on up) here));
     }
-
--- one that is down has no other one
-pub cuts_down : {D : Type 0} (medium : Medium D) (laptop : Laptop D) (link : LinkState) → is_on laptop.post ≡ false
-    → link ≡ connected false laptop.link → IsCutLink medium laptop (record laptop { link = link })
-cuts_down medium laptop link off is = record {
-  place = refl;
-  name = refl;
-  alive = refl;
-  stamps = refl;
-  disk = refl;
-  stands = λ scripts m here.
-      let down : FallenStands medium scripts laptop m = fallen_stands medium scripts laptop m off here in
-      fallen (record {
-        name = down.name;
-        link = is ∙ ap (connected false) down.link;
-        alive = down.alive;
-        node = down.node;
-        named = down.named;
-      });
-}
 
 -- ---- its node
 
--- what is known besides of one that is alive, by what was begun
-known_up : {D : Type 0} (medium : Medium D) (place : ℕ) (post : Post (Seated D) D) (node : Node ClientState)
-    → PostStands (seating medium place) medium no_text post node → node.alive ≡ true → (first : List ℕ)
-    → begun_of (live_by post) ≡ live_with first node.durable.running → live_by post ≡ live_with first node.durable.running
-known_up medium place (Up seated) node here up first begun =
-    known_again seated.client here.stands.tied first node.durable.running here.stands.kept.running begun
-known_up medium place (Down down) node here up first begun = absurd (not_both (sym up ∙ here.alive))
-known_up medium place Between node here up first begun = absurd here
+module _ {D : Type 0} (medium : Medium D) (place : ℕ) (post : Post (Seated D) D) (node : Node ClientState)
+    (here : PostStands (seating medium place) medium no_text post node) (up : node.alive ≡ true) where
+  -- what is known besides of one that is alive, by what was begun
+  known_up : (first : List ℕ) → begun_of (live_by post) ≡ live_with first node.durable.running
+      → live_by post ≡ live_with first node.durable.running
+  known_up first begun =
+      let it = keeper_of medium place post node here up in
+      rw it.1
+      (known_again it.0.client it.2.stands.tied first node.durable.running it.2.stands.kept.running
+      (subst (λ (p : Post (Seated D) D). begun_of (live_by p) ≡ live_with first node.durable.running) it.1 begun))
 
--- nothing is known of what runs if nothing runs
-none_up : {D : Type 0} (medium : Medium D) (place : ℕ) (post : Post (Seated D) D) (node : Node ClientState)
-    → PostStands (seating medium place) medium no_text post node → node.alive ≡ true → (state_by post).running ≡ [] → live_by post ≡ []
-none_up medium place (Up seated) node here up none =
-    none_live (classes_in seated.client) seated.client.interpreters.items
-    (subst (λ (running : List Transaction). AreRuns running seated.client.interpreters.items) none here.stands.tied.runs)
-none_up medium place (Down down) node here up none = absurd (not_both (sym up ∙ here.alive))
-none_up medium place Between node here up none = absurd here
-
-begun_here : (first : List ℕ) (lives : List Live) (m : ClientState) {s : State} → StateStands s lives first m
-    → begun_of lives ≡ live_with first m.running
-begun_here first lives m {s} here =
-    ap begun_of (lives_then s.running lives first m.running here.running) ∙ begun_all first m.running
+  -- nothing is known of what runs if nothing runs
+  none_up : (state_by post).running ≡ [] → live_by post ≡ []
+  none_up none =
+      let it = keeper_of medium place post node here up in
+      let idle : (state_of it.0.client).running ≡ [] = sym (ap (λ (p : Post (Seated D) D). (state_by p).running) it.1) ∙ none in
+      rw it.1
+      (none_live (classes_in it.0.client) it.0.client.interpreters.items
+      (subst (λ (running : List Transaction). AreRuns running it.0.client.interpreters.items) idle it.2.stands.tied.runs))
 
 module _ {D : Type 0} (medium : Medium D) (laptop : Laptop D) (post : Post (Seated D) D) where
   abbrev next : Laptop D
   next = record laptop { post = post }
 
-  -- ---- a crash
+  -- a call of its node by its name
+  by_name : (scripts : List Declared) (call : List ℕ → Part (Node ClientState)) (x y : List ℕ)
+      → Refines (Posted medium laptop) (call laptop.name) laptop.post post x y tt
+      → ((m : machine.Client) → ClientStands medium scripts laptop m → (n : Node ClientState) (text : List ℕ)
+      → call laptop.name m.node text tt n → Posted medium laptop post n → ClientStands medium scripts next (record m { node = n }))
+      → Refines (ClientStands medium scripts) (Then (Asks (λ m. m.name)) (λ name. At machine.node (call name))) laptop next x y tt
+  by_name scripts call x y it each =
+      refines
+      (bind laptop laptop next x x y laptop.name tt (asks laptop x laptop.name (same_name medium scripts laptop))
+      (at_node medium laptop post call (λ _. laptop.name) x y tt
+      (λ m here. (refl, it.step m.node (node_stands medium scripts laptop m here))) each))
 
   pub crashes : (x y : List ℕ) → Refines (Posted medium laptop) (Crashes laptop.name) laptop.post post x y tt
       → is_on post ≡ false → (scripts : List Declared) → Refines (ClientStands medium scripts) CrashesClient laptop next x y tt
-  crashes x y it off scripts =
-      refines
-      (bind laptop laptop next x x y laptop.name tt (asks laptop x laptop.name (same_name medium scripts laptop))
-      (at_node medium laptop post Crashes (λ _. laptop.name) x y tt
-      (λ m here. (refl, it.step m.node (node_stands medium scripts laptop m here)))
-      (λ m here n text step stands.
+  crashes x y it off scripts = by_name scripts Crashes x y it (λ m here n text step stands.
       fallen_at medium scripts laptop m (same_name medium scripts laptop m here) (same_link medium scripts laptop m here) post n stands
       (on_is (seating medium laptop.place) medium no_text post n stands ∙ off)
-      ((crashes_within laptop.name m.node n text tt step).each (AreNamed scripts) (may_be_named medium scripts laptop m here)))))
+      ((crashes_within laptop.name m.node n text tt step).each (AreNamed scripts) (may_be_named medium scripts laptop m here)))
 
-  -- ---- its disk is armed
-
-  module _ (calls : ℕ) (pick : Pick) (live : begun_of (live_by post) ≡ begun_of (live_by laptop.post)) where
-    arms_by : (scripts : List Declared) (m : machine.Client) → ClientStands medium scripts laptop m
-        → Posted medium laptop post (armed calls pick m.node)
-        → ClientStands medium scripts next (record m { node = armed calls pick m.node })
-    arms_by scripts m (awake here) stands =
-        awake
-        (awake_at medium scripts laptop m here.name here.link post (armed calls pick m.node) stands here.alive m.first
-        (known_up medium laptop.place post (armed calls pick m.node) stands here.alive m.first
-        (live ∙ begun_here m.first (live_by laptop.post) m.node.durable here.state)) here.named)
-    arms_by scripts m (fallen here) stands =
-        fallen_at medium scripts laptop m here.name here.link post (armed calls pick m.node) stands here.alive
-        (record { is = here.named.is; may_be = here.named.may_be })
-
-    pub arms : (x y : List ℕ) → Refines (Posted medium laptop) (ArmsDisk laptop.name calls pick) laptop.post post x y tt
-        → (scripts : List Declared) → Refines (ClientStands medium scripts) (ArmsClient calls pick) laptop next x y tt
-    arms x y it scripts =
-        refines
-        (bind laptop laptop next x x y laptop.name tt (asks laptop x laptop.name (same_name medium scripts laptop))
-        (at_node medium laptop post (λ name. ArmsDisk name calls pick) (λ _. laptop.name) x y tt
-        (λ m here. (refl, it.step m.node (node_stands medium scripts laptop m here)))
-        (λ m here n text step stands.
-        subst (λ (n : Node ClientState). ClientStands medium scripts next (record m { node = n })) (sym step.1)
-        (arms_by scripts m here (subst (Posted medium laptop post) step.1 stands)))))
+  -- its disk is armed
+  pub arms : (calls : ℕ) (pick : Pick) → besides_by post ≡ besides_by laptop.post → (x y : List ℕ)
+      → Refines (Posted medium laptop) (ArmsDisk laptop.name calls pick) laptop.post post x y tt
+      → (scripts : List Declared) → Refines (ClientStands medium scripts) (ArmsClient calls pick) laptop next x y tt
+  arms calls pick live x y it scripts = by_name scripts (λ name. ArmsDisk name calls pick) x y it (λ m here n text step stands.
+      let same : SameStates m.node n = rw step.1 (record { durable = refl; doubt = refl }) in
+      stands_at medium scripts laptop m (same_name medium scripts laptop m here) (same_link medium scripts laptop m here) post n stands
+      (λ up.
+      let there = alive_stands medium scripts laptop m (ap (λ (n : Node ClientState). n.alive) (sym step.1) ∙ up) here in
+      known_up medium laptop.place post n stands up m.first
+      (ap (λ (b : Besides). b.begun) live
+      ∙ ap begun_of (lives_then (state_in laptop).running (live_in laptop) m.first m.node.durable.running there.state.running)
+      ∙ begun_all m.first m.node.durable.running ∙ ap (λ (s : ClientState). live_with m.first s.running) (sym same.durable)))
+      (possibly_same m.node n same (may_be_named medium scripts laptop m here)))
 
 -- ---- a new laptop
 
@@ -249,16 +216,8 @@ empty_image bytes none = record {
     stands = record { decoding = NotStarted; is = empty_decoded bytes none; makes = refl };
     counted = ap (λ (d : Decoded). (encoded_in d).count) (empty_decoded bytes none);
   };
-  kept = record {
-    held = refl;
-    items = tt;
-    running = tt;
-    last = refl;
-    tree = subst IsTree (root_map FarDir) (root_rows FarDir refl).tree;
-    spelled = far_root_spelled;
-    access = refl;
-    others = tt;
-  };
+  kept =
+      let tree : IsTree opening.held = subst IsTree (root_map FarDir) (root_rows FarDir refl).tree in search (rules, far_root_spelled);
 }
 
 module _ {D : Type 0} (medium : Medium D) (disk : D) (empty : IsEmpty medium disk) (place : ℕ) where
@@ -316,20 +275,6 @@ module _ {D : Type 0} (medium : Medium D) (laptop : Laptop D) (new : IsUnopened 
         (subst (λ (ms : List clients.Running). RunKept (state_by post).running ms)
         (ap (λ (state : ClientState). state.running) (opens_states laptop.name opens_standing.node s.1 s.0 on s.3).durable) kept.running)
 
-    opens_at : (scripts : List Declared) (m : machine.Client) (n : Node ClientState) → FallenStands medium scripts laptop m
-        → Posted medium laptop post n → (b : Bool) → is_on post ≡ b
-        → Possibly (AreNamed scripts) n → ClientStands medium scripts (record laptop { post = post }) (record m { node = n })
-    opens_at scripts m n here stands true up named =
-        let alive = on_is (seating medium laptop.place) medium no_text post n stands ∙ up in
-        awake
-        (awake_at medium scripts laptop m here.name here.link post n stands alive m.first
-        (none_up medium laptop.place post n stands alive (started_idle up)
-        ∙ idle_runs m.first (state_by post) n.durable (started_idle up) (kept_up medium laptop.place post n stands alive))
-        named.is)
-    opens_at scripts m n here stands false off named =
-        fallen_at medium scripts laptop m here.name here.link post n stands
-        (on_is (seating medium laptop.place) medium no_text post n stands ∙ off) named
-
     pub opens : (scripts : List Declared)
         → Refines (ClientStands medium scripts) OpensClient laptop (record laptop { post = post }) x y on
     opens scripts =
@@ -337,25 +282,12 @@ module _ {D : Type 0} (medium : Medium D) (laptop : Laptop D) (new : IsUnopened 
         (at_node medium laptop post OpensNode (λ m. m.name) x y on
         (λ m here. (same_name medium scripts laptop m here, it.step m.node (node_stands medium scripts laptop m here)))
         (λ m here n text step stands.
-        let down : FallenStands medium scripts laptop m =
-        fallen_stands medium scripts laptop m (ap (λ (p : Post (Seated D) D). is_on p) new.down) here in
-        opens_at scripts m n down stands (is_on post) refl
-        (possibly_same m.node n (opens_states laptop.name m.node n text on step) down.named)))
-
--- ---- what is known besides
-
-pub live_again : {D : Type 0} (old new : Post (Seated D) D) → posts.live_of besides new ≡ posts.live_of besides old
-    → begun_of (live_by new) ≡ begun_of (live_by old)
-live_again (Up a) (Up b) same = ap (λ (b : Besides). b.begun) (same_Some _ _ same)
-live_again (Up a) new same = absurd cc
-live_again old (Up b) same = absurd cc
-live_again old new same = refl
-
-live_fresh : {D : Type 0} (new : Post (Seated D) D) (on : Bool) → posts.live_of besides new ≡ (if on then Some none_besides else None)
-    → begun_of (live_by new) ≡ []
-live_fresh (Up b) true same = ap (λ (b : Besides). b.begun) (same_Some _ _ same)
-live_fresh (Up b) false same = absurd cc
-live_fresh new on same = refl
+        stands_at medium scripts laptop m (same_name medium scripts laptop m here) (same_link medium scripts laptop m here) post n stands
+        (λ up.
+        let idle = started_idle (sym (on_is (seating medium laptop.place) medium no_text post n stands) ∙ up) in
+        none_up medium laptop.place post n stands up idle
+        ∙ idle_runs m.first (state_by post) n.durable idle (kept_up medium laptop.place post n stands up))
+        (possibly_same m.node n (opens_states laptop.name m.node n text on step) (may_be_named medium scripts laptop m here))))
 
 -- ---- a restart
 
@@ -440,23 +372,31 @@ module _ {D : Type 0} (medium : Medium D) (old : Laptop D) where
           true
       returns scripts = steps_back back scripts (λ m down n stands named.
           let alive : n.alive ≡ true = alive_is back n stands in
-          let found : begun_of (live_by post) ≡ [] = live_fresh post true back.live in
-          search rules)
+          record {
+            before = record { name = down.name; link = down.link; alive = alive; node = stands; named = named.is };
+            found = ap (λ (b : Besides). b.begun) (besides_fresh post true back.live);
+          })
 
       pub is_back : StandsAnyhow medium old → Returned medium mid
       is_back stands =
           let down = fallen_stands medium stands.scripts old stands.machine back.off stands.stands in
           record { scripts = stands.scripts; machine = _; stands = ((returns stands.scripts).step stands.machine down).4 }
 
-      module _ (new : Laptop D) (z : List ℕ)
-          (cut : (scripts : List Declared) → CutsAll medium scripts mid new y z) where
+      module _ (new : Laptop D) (z : List ℕ) (cut : CutsAll medium mid new y z) where
+        all_cut : (scripts : List Declared) → StepsTo (ReturnedStands medium scripts) (ClientStands medium scripts) CutsOff mid new y z tt
+        all_cut scripts = record {
+          step = λ m here.
+              let t = (cut scripts m.node.durable.running).step m (record { here = here; runs = refl }) in
+              (t.0, t.1, t.2, quietly m.node.durable.running m (refl, refl, refl) t.3, t.4);
+        }
+
         pub comes_back : (scripts : List Declared) → Refines (ClientStands medium scripts) RestartsClient old new x z tt
-        comes_back scripts = comes back scripts (returns scripts) new z (cut scripts)
+        comes_back scripts = comes back scripts (returns scripts) new z (all_cut scripts)
 
         pub came_back : (scripts : List Declared) (m : machine.Client) → ClientStands medium scripts old m → Came medium old x z m
         came_back scripts m here =
             let down : FallenStands medium scripts old m = fallen_stands medium scripts old m back.off here in
-            let t = (cut scripts).step _ ((returns scripts).step m down).4 in
+            let t = (all_cut scripts).step _ ((returns scripts).step m down).4 in
             record {
               on = true;
               mid = y;

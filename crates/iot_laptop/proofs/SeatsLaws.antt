@@ -1,8 +1,10 @@
 -- What a client is as the keeper of a node: how it starts, and what its disk holds.
-use Rattle.std.proofs.Common.{◌≡◌, ◌≤◌, ℕ, suc, Bool, true, false, cond, List, [], ◌∷◌, drop, length, Option, is_some, refl, sym, ap}
+use Rattle.std.proofs.Common.{◌≡◌, ◌≤◌, ℕ, suc, Bool, true, false, List, [], ◌∷◌, drop, length, Option, is_some, refl, sym, ap}
 use Rattle.std.proofs.Common.{subst, ◌∙◌, inl, inr}
-use Rattle.std.proofs.Common.{arith}
+use Rattle.std.proofs.Common.{arith, not}
+use Rattle.std.proofs.lemmas.Bool.{cond-false, cond_both}
 use Rattle.std.proofs.lemmas.List.{length-map}
+use Rattle.std.proofs.lemmas.List.Filters.{length-filter_both}
 use Rattle.iot_client.specs.Ties.{AreFound, AreRuns, lives as lives_of}
 use Rattle.iot_client.specs.declared.interpreter.Interpreter.{Interpreter}
 use Rattle.iot_kept.specs.Kept.{memory_of}
@@ -22,7 +24,12 @@ use Rattle.iot_node.specs.Keeping.{EachIs, CanStart, HoldSame, Comes, Fails, Cou
 use Rattle.iot_disk.specs.declared.faults.StartFault.TheVariants as faults
 use Rattle.iot_standing.specs.Kept.{RunKept, StateKept}
 use Rattle.iot_stamp.specs.Stamps.{unstamped}
-use Rattle.iot_laptop.specs.Seats.{IsSeated, IsClientImage, begun_of, seating, besides, none_besides}
+use Rattle.iot_laptop.specs.Seats.{Besides, IsSeated, IsClientImage, begun_of, seating, besides, none_besides}
+use Rattle.iot_laptop.specs.Laptops.{live_by, stamps_by}
+use Rattle.iot_laptop.specs.Below.{Post, Up, nothing_held}
+use Rattle.iot_node.specs.Posts as posts
+use Rattle.std.proofs.Common.{Some, None, if◌then◌else◌}
+use Rattle.std.proofs.lemmas.Option.{same_Some}
 use Rattle.iot_stamp.specs.Trails.{lent_stamps}
 use Rattle.iot_stamp.proofs.TrailsLaws.{none_lent}
 
@@ -31,20 +38,15 @@ use Rattle.iot_stamp.proofs.TrailsLaws.{none_lent}
 -- of those that a start found none was begun since
 pub found_none : (lives : List Live) → AreFound lives → begun_of lives ≡ []
 found_none [] found = refl
-found_none (live ∷ lives) found = by_test (found_none lives found.1) (is_some live.code) (ap is_some found.0.none)
-  where
-    by_test : begun_of lives ≡ [] → (b : Bool) → b ≡ false → cond b (live ∷ begun_of lives) (begun_of lives) ≡ []
-    by_test rest true is = absurd cc
-    by_test rest false is = rest
+found_none (live ∷ lives) found =
+    cond-false (is_some live.code) (live ∷ begun_of lives) (begun_of lives) (ap is_some found.0.none) ∙ found_none lives found.1
 
 -- so it is of the later ones
 pub later_none : (lives : List Live) → begun_of lives ≡ [] → begun_of (drop 1 lives) ≡ []
 later_none [] none = refl
-later_none (live ∷ lives) none = by_test (is_some live.code) none
-  where
-    by_test : (b : Bool) → cond b (live ∷ begun_of lives) (begun_of lives) ≡ [] → begun_of lives ≡ []
-    by_test true none = absurd cc
-    by_test false none = none
+later_none (live ∷ lives) none =
+    cond_both (is_some live.code) (live ∷ begun_of lives) (begun_of lives) (λ all. all ≡ [] → begun_of lives ≡ [])
+    (λ is none. absurd cc) (λ is none. none) none
 
 -- all of these were begun
 pub begun_all : (first : List ℕ) (ms : List clients.Running) → begun_of (live_with first ms) ≡ live_with first ms
@@ -52,24 +54,16 @@ begun_all first [] = refl
 begun_all first (m ∷ ms) = ap (λ (lives : List Live). live_as first m ∷ lives) (begun_all first ms)
 
 few_begun : (lives : List Live) → length (begun_of lives) ≤ length lives
-few_begun [] = omega arith
-few_begun (live ∷ lives) = by_test (few_begun lives) (is_some live.code)
-  where
-    by_test : length (begun_of lives) ≤ length lives → (b : Bool)
-        → length (cond b (live ∷ begun_of lives) (begun_of lives)) ≤ length (live ∷ lives)
-    by_test rest true = omega (arith, rest)
-    by_test rest false = omega (arith, rest)
+few_begun lives = omega (arith, length-filter_both (λ live. is_some live.code) (λ live. not (is_some live.code)) (λ live. refl) lives)
 
 -- if as many were begun as there are, all were
 begun_whole : (lives : List Live) → length (begun_of lives) ≡ length lives → begun_of lives ≡ lives
 begun_whole [] many = refl
-begun_whole (live ∷ lives) many = by_test (begun_whole lives) (is_some live.code) many
-  where
-    by_test : (length (begun_of lives) ≡ length lives → begun_of lives ≡ lives) → (b : Bool)
-        → length (cond b (live ∷ begun_of lives) (begun_of lives)) ≡ length (live ∷ lives)
-        → cond b (live ∷ begun_of lives) (begun_of lives) ≡ live ∷ lives
-    by_test rest true many = ap (λ (others : List Live). live ∷ others) (rest (omega (arith, many)))
-    by_test rest false many = absurd (omega (arith, many, few_begun lives))
+begun_whole (live ∷ lives) many =
+    cond_both (is_some live.code) (live ∷ begun_of lives) (begun_of lives)
+    (λ all. length all ≡ length (live ∷ lives) → all ≡ live ∷ lives)
+    (λ is many. ap (λ (others : List Live). live ∷ others) (begun_whole lives (omega (arith, many))))
+    (λ is many. absurd (omega (arith, many, few_begun lives))) many
 
 -- there are as many as run
 many_known : (items : List RunningIn) (interpreters : List (Option Interpreter)) → AreRuns (transactions items) interpreters
@@ -91,34 +85,41 @@ known_again it tied first ms kept begun =
     ap length begun ∙ length-map ms (live_as first) ∙ sym same ∙ sym many in
     sym (begun_whole (live_of it) whole) ∙ begun
 
+-- so it is of a node; nothing is known besides of one that is down
+abbrev pub besides_by : {D : Type 0} → Post (Seated D) D → Besides
+besides_by post = record { begun = begun_of (live_by post); lent = lent_stamps (stamps_by post) }
+
+pub besides_again : {D : Type 0} (old new : Post (Seated D) D) → posts.live_of besides new ≡ posts.live_of besides old
+    → besides_by new ≡ besides_by old
+besides_again (Up a) (Up b) same = same_Some _ _ same
+besides_again (Up a) new same = absurd cc
+besides_again old (Up b) same = absurd cc
+besides_again old new same = refl
+
+pub besides_fresh : {D : Type 0} (new : Post (Seated D) D) (on : Bool)
+    → posts.live_of besides new ≡ (if on then Some none_besides else None) → besides_by new ≡ none_besides
+besides_fresh (Up b) true same = same_Some _ _ same
+besides_fresh (Up b) false same = absurd cc
+besides_fresh new on same =
+    let none : lent_stamps nothing_held ≡ None = none_lent _ in λ i. record { begun = []; lent = none i }
+
 -- ---- its disk
 
--- images that stand for what the bytes of a disk stood for, with as many records, are what the client keeps if those were
-same_images : (images : List ℕ → Type 0) (bytes : List ℕ) (count : ℕ) (m : ClientState)
-    → ((state : State) → StandFor bytes state → EachStands images (records_in bytes) state) → IsClientImage bytes count m
-    → EachIs images (λ image. IsClientImage image count m)
-same_images images bytes count m stands is = record {
-  each = λ image left. record {
-    state = is.state;
-    stands =
-        subst (λ (n : ℕ). StandWith image n is.state) is.stands.counted ((stands is.state is.stands.stands).each image left);
-    kept = is.kept;
-  };
+-- images that stand for this state, with as many records, are what the client keeps
+stand_images : (images : List ℕ → Type 0) (records count : ℕ) (state : State) (m : ClientState) → EachStands images records state
+    → records ≡ count → StateKept state m → EachIs images (λ image. IsClientImage image count m)
+stand_images images records count state m stands same kept = record {
+  each = λ image left.
+      record { state = state; stands = subst (λ (n : ℕ). StandWith image n state) same (stands.each image left); kept = kept };
 }
 
 module _ {D : Type 0} (medium : Medium D) where
   -- each image of its disk is what it keeps
   pub seat_images : (place count : ℕ) (seated : Seated D) (m : ClientState) → IsSeated medium place seated count m
       → EachIs (medium.may_leave (disk_of seated.client)) (λ image. IsClientImage image count m)
-  seat_images place count seated m here = record {
-    each = λ image left. record {
-      state = state_of seated.client;
-      stands =
-          subst (λ (n : ℕ). StandWith image n (state_of seated.client)) here.counted
-          ((synced_stands medium seated.client.kept here.tied.synced).each image left);
-      kept = here.kept;
-    };
-  }
+  seat_images place count seated m here =
+      stand_images (medium.may_leave (disk_of seated.client)) (records_of seated.client) count (state_of seated.client) m
+      (synced_stands medium seated.client.kept here.tied.synced) here.counted here.kept
 
   module _ (disk : D) where
     -- what is known besides after a start
@@ -132,9 +133,15 @@ module _ {D : Type 0} (medium : Medium D) where
         → ((state : State) → StandFor (medium.reads disk) state → EachStands images (records_in (medium.reads disk)) state)
         → HoldSame (seating medium place) (medium.reads disk) images
     hold_same place images stand = record {
-      stand = λ count m is. same_images images (medium.reads disk) count m stand is;
-      turn = λ count m after is. same_images images (medium.reads disk) (next count) after stand is;
+      stand = holds;
+      turn = λ count m after is. holds (next count) after is;
     }
+      where
+        holds : (count : ℕ) (m : ClientState) → IsClientImage (medium.reads disk) count m
+            → EachIs images (λ image. IsClientImage image count m)
+        holds count m is =
+            stand_images images (records_in (medium.reads disk)) count is.state m (stand is.state is.stands.stands) is.stands.counted
+            is.kept
 
     pub seat_comes : (place : ℕ) (it : Client D) → ((state : State) → StandFor (medium.reads disk) state → state_of it ≡ state)
         → StandWith (medium.reads disk) (records_of it) (state_of it) → IsTied medium it → place_of it ≡ place

@@ -22,7 +22,7 @@ use Rattle.iot_kept.specs.Changes.{IsSubmitted}
 use Rattle.iot_client.specs.Messages.{IsWholeRequest, label_of, resolved_label}
 use Rattle.iot_disk.specs.declared.faults.JournalFault.{JournalFault}
 use Rattle.iot_machine.specs.Clients.{Next}
-use Rattle.iot_machine.specs.Events.{CutsOff}
+use Rattle.iot_machine.specs.Events.{cuts_off}
 use Rattle.iot_machine.specs.Texts.{cut_line}
 use Rattle.iot_node.specs.Steps.{StepsTo, Ends}
 use Rattle.iot_tree.specs.declared.want.Want.TheVariants as wanted
@@ -31,6 +31,8 @@ use Rattle.iot_resolve.specs.Plans as resolves
 use Rattle.iot_resolve.specs.declared.plan.Plan as plans
 use Rattle.iot_client.specs.declared.fault.ClientFault.TheVariants as faults
 use Rattle.iot_client.specs.declared.steps.Step.TheVariants as steps
+use Rattle.iot_client.specs.declared.ended.Ended.{Ended}
+use Rattle.iot_client.specs.declared.ended.Ended.TheVariants as ends
 use Rattle.iot_disk.specs.declared.faults.JournalFault.TheVariants as append
 use Rattle.iot_machine.specs.Clients as clients
 use Rattle.iot_machine.specs.Machine as machine
@@ -40,7 +42,7 @@ use Rattle.iot_node.specs.declared.lines.Transaction as names
 use Rattle.iot_kept.specs.States.{numbered}
 use Rattle.iot_machine.specs.Transactions.{Compared, Same, Differs}
 use Rattle.iot_laptop.specs.Alone.{NotesAlone, StartsAlone, YieldsAndNotes, yielding}
-use Rattle.iot_laptop.specs.Laptops.{LaptopStands, ClientStands, NodeStands, Reclassed, state_in, stamps_in, live_in, IsFirst}
+use Rattle.iot_laptop.specs.Laptops.{LaptopStands, ClientStands, NodeStands, Reclassed, state_in, stamps_in, live_in, IsFirst, is_alive}
 use Rattle.iot_standing.specs.States.{waits_of, told_change, IsOver, head_option, head_plan, next_as}
 use Rattle.iot_laptop.specs.Messages.{verdict_of}
 use Rattle.iot_standing.specs.Scripts.{IsNamed, HasNamed, AreNamed, option_named}
@@ -78,6 +80,7 @@ pub record GoesOn {D T : Type 0} (medium : Medium D) (old new : Laptop D) (count
   pub same : OnOk result (new ≡ old)
   pub silent : OnOk result (y ≡ x)
   pub stopped : IsErrOf result Over → IsErrOf answer faults.Stopped
+  pub down : IsErrOf result Over → is_alive new ≡ false
   pub rest : new ≡ record old { post = new.post }
 
 -- what is so unless memory ran out
@@ -98,28 +101,29 @@ abbrev pub done : {T : Type 0} → Result T Halt → Result (Unit {0}) Halt
 done (Ok t) = Ok tt
 done (Err halt) = Err halt
 
+-- what is so of a call, by the laptop before and after it, by the text before and after it, and by its answer
+abbrev pub Outcome : (D A : Type 0) → Type 1
+Outcome D A = (old new : Laptop D) → (x y : List ℕ) → Result A Halt → Type 0
+
 -- among any scripts it stands for a client by this call: it is alive after that, or the event is over, and it may be down
-abbrev pub EndsAlone : {D A : Type 0} → Medium D → List Declared → Try machine.Client A → (old new : Laptop D) → (x y : List ℕ)
-    → Result A Halt → Type 0
+abbrev pub EndsAlone : {D A : Type 0} → Medium D → List Declared → Try machine.Client A → Outcome D A
 EndsAlone medium scripts call old new x y result =
     Ends (LaptopStands medium scripts) (ClientStands medium scripts) call old new x y result
 
 -- it notes this change, or stops in that
-abbrev pub Changes : {D : Type 0} → Medium D → (ClientState → ClientState) → (old new : Laptop D) → (x y : List ℕ)
-    → Result (Unit {0}) Halt → Type 0
+abbrev pub Changes : {D : Type 0} → Medium D → (ClientState → ClientState) → Outcome D (Unit {0})
 Changes medium change old new x y result =
     (scripts : List Declared) → EndsAlone medium scripts (NotesAlone change) old new x y result
 
 -- its next transaction begins, with each option that this one may mean, and has this number
-abbrev pub Begins : {D : Type 0} → Medium D → Declared → OnConflict → (first : Bool) → (old new : Laptop D) → (x y : List ℕ)
-    → Result ℕ Halt → Type 0
+abbrev pub Begins : {D : Type 0} → Medium D → Declared → OnConflict → (first : Bool) → Outcome D ℕ
 Begins medium script option first old new x y result =
     (scripts : List Declared) (on_conflict : options.OnConflict Declared) → IsNamed scripts script → HasNamed scripts on_conflict
     → option ≡ option_named on_conflict
     → EndsAlone medium scripts (StartsAlone script on_conflict first) old new x y result
 
 -- the first that waits is to be resolved by the script of this name
-abbrev pub Repairs : {D : Type 0} → Medium D → (name : List ℕ) → (old new : Laptop D) → (x y : List ℕ) → Result (Unit {0}) Halt → Type 0
+abbrev pub Repairs : {D : Type 0} → Medium D → (name : List ℕ) → Outcome D (Unit {0})
 Repairs medium name old new x y result =
     (scripts : List Declared) (script : Declared) → IsNamed scripts script → script.name ≡ name
     → EndsAlone medium scripts (NotesAlone (repair script)) old new x y result
@@ -131,8 +135,7 @@ Plans medium scripts laptop plan =
     → head_plan m.node.durable.held m.node.durable.items ≡ Some plan
 
 -- the first that waits was resolved on this tree as it is planned
-abbrev pub Resolves : {D : Type 0} → Medium D → List Declared → Plan → (t : Nodes) → (old new : Laptop D) → (x y : List ℕ)
-    → Result (Unit {0}) Halt → Type 0
+abbrev pub Resolves : {D : Type 0} → Medium D → List Declared → Plan → (t : Nodes) → Outcome D (Unit {0})
 Resolves medium scripts plan t old new x y result =
     EndsAlone medium scripts (NotesAlone (reach (clients.Resolved (resolution_of plan t)))) old new x y result
 
@@ -222,13 +225,12 @@ NextIs medium number laptop (Err NoMemory) = Unit {0}
 NextIs medium number laptop (Err Over) = IsNext medium number laptop Acts
 
 -- it has yielded, and notes this change, or stops in that
-abbrev pub YieldsAndChanges : {D : Type 0} → Medium D → (number : ℕ) → (ClientState → ClientState) → (old new : Laptop D)
-    → (x y : List ℕ) → Result (Unit {0}) Halt → Type 0
+abbrev pub YieldsAndChanges : {D : Type 0} → Medium D → (number : ℕ) → (ClientState → ClientState) → Outcome D (Unit {0})
 YieldsAndChanges medium number change old new x y result =
     (scripts : List Declared) → EndsAlone medium scripts (YieldsAndNotes number change) old new x y result
 
 -- the client has done an act, or stopped in that, and else has only yielded; what is fetched is for one of first class, while none waits
-abbrev pub TakesStep : {D : Type 0} → Medium D → (number : ℕ) → (old new : Laptop D) → (x y : List ℕ) → Result Step Halt → Type 0
+abbrev pub TakesStep : {D : Type 0} → Medium D → (number : ℕ) → Outcome D Step
 TakesStep medium number old new x y (Ok (steps.Acted acts ended)) = YieldsAndChanges medium number (act_once number) old new x y (Ok tt)
 TakesStep medium number old new x y (Ok (steps.Fetch request path)) =
     Reclassed medium (yielding number) old new × (y ≡ x) × IsRefresh (new.place) (stamps_in new) (wanted.Path path) request
@@ -248,6 +250,16 @@ abbrev pub IsDoneIn : {D : Type 0} → Medium D → (number : ℕ) → Laptop D 
 IsDoneIn medium number laptop =
     (scripts : List Declared) (m : machine.Client) (it : clients.Running) → LaptopStands medium scripts laptop m
     → clients.numbered number m.node.durable ≡ Some it → IsOver (next_step (machine.is_first it.number m) it)
+
+-- what became of a transaction of the client of this name, which has printed this
+abbrev pub certified_as : (name output : List ℕ) → Ended → Certified
+certified_as name output (ends.Joined tid class) =
+    Joined (record { printed = record { transaction = record { client = name; number = tid }; output = output }; first = class })
+certified_as name output (ends.Again read question) = Again read question
+
+abbrev pub certified_if : (name output : List ℕ) → Result Ended ClientFault → Result Certified ClientFault
+certified_if name output (Ok ended) = Ok (certified_as name output ended)
+certified_if name output (Err fault) = Err fault
 
 -- what was found, as the machine says it
 abbrev pub compared : Certified → Compared
@@ -283,8 +295,7 @@ pub record IsTold {D : Type 0} (reply : List ℕ) (laptop : Laptop D) (said : To
   pub option : head_option (state_in laptop).items ≡ Some said.option
 
 -- what the reply says of it was noted, by its option
-abbrev pub TakesVerdict : {D : Type 0} → Medium D → (reply : List ℕ) → (old new : Laptop D) → (x y : List ℕ)
-    → Result (Unit {0}) Halt → Type 0
+abbrev pub TakesVerdict : {D : Type 0} → Medium D → (reply : List ℕ) → Outcome D (Unit {0})
 TakesVerdict medium reply old new x y result =
     (told : serving.Verdict) (option : OnConflict) → SpellsVerdict (head_reads (state_in old).items) reply told
     → head_option (state_in old).items ≡ Some option
@@ -292,15 +303,20 @@ TakesVerdict medium reply old new x y result =
 
 -- ---- a restart
 
--- one that has just come back: what it found running has no script, and is only to be cut off
-pub record ReturnedStands {D : Type 0} (medium : Medium D) (scripts : List Declared) (laptop : Laptop D) (m : machine.Client) : Type
-    0 where
+-- what is known of one that is alive, and of a client of the machine, whatever runs
+pub record Before {D : Type 0} (medium : Medium D) (laptop : Laptop D) (scripts : List Declared) (m : machine.Client) : Type 0 where
   pub name : laptop.name ≡ m.name
   pub link : laptop.link ≡ m.link
   pub alive : m.node.alive ≡ true
   pub node : NodeStands medium laptop m
-  pub found : begun_of (live_in laptop) ≡ []
   pub named : AreNamed scripts m.node.durable
+
+-- one that has just come back: what it found running has no script, and is only to be cut off
+pub record ReturnedStands {D : Type 0} (medium : Medium D) (scripts : List Declared) (laptop : Laptop D) (m : machine.Client) : Type
+    0 where
+  pub before : Before medium laptop scripts m
+  pub open before use *
+  pub found : begun_of (live_in laptop) ≡ []
 
 pub record Returned {D : Type 0} (medium : Medium D) (laptop : Laptop D) : Type 0 where
   pub scripts : List Declared
@@ -317,20 +333,26 @@ pub record Came {D : Type 0} (medium : Medium D) (old : Laptop D) (x y : List �
   pub whole : y ≡ mid ++ rest
   pub stopped : on ≡ false → y ≡ x ++ stopped_line old.name
 
+-- these run in the client of the machine
+pub record Back {D : Type 0} (medium : Medium D) (scripts : List Declared) (running : List clients.Running) (laptop : Laptop D)
+    (m : machine.Client) : Type 0 where
+  pub here : ReturnedStands medium scripts laptop m
+  pub runs : m.node.durable.running ≡ running
+
 -- all that ran is cut off, one after the other, or it stops in that
-abbrev pub CutsAll : {D : Type 0} → Medium D → List Declared → (old new : Laptop D) → (x y : List ℕ) → Type 0
-CutsAll medium scripts old new x y = StepsTo (ReturnedStands medium scripts) (ClientStands medium scripts) CutsOff old new x y tt
+abbrev pub CutsAll : {D : Type 0} → Medium D → (old new : Laptop D) → (x y : List ℕ) → Type 0
+CutsAll medium old new x y =
+    (scripts : List Declared) (running : List clients.Running)
+    → StepsTo (Back medium scripts running) (ClientStands medium scripts) (cuts_off running) old new x y tt
 
 -- the first of those that ran is cut off, and what is said of that and then cuts off the others makes the whole; or none ran, or it has
 -- stopped in that
-abbrev pub CutsFirst : {D : Type 0} → Medium D → List Declared → (old new : Laptop D) → (x y : List ℕ)
-    → Result (Option (ℕ × ℕ)) Halt → Type 0
-CutsFirst {D = D} medium scripts old new x y (Ok (Some told)) =
-    (last : Laptop D) (z : List ℕ) → CutsAll medium scripts new last (y ++ cut_line (transaction_name new.name told.0) told.1) z
-    → CutsAll medium scripts old last x z
-CutsFirst medium scripts old new x y (Ok None) = CutsAll medium scripts old new x y
-CutsFirst medium scripts old new x y (Err NoMemory) = Unit {0}
-CutsFirst medium scripts old new x y (Err Over) = CutsAll medium scripts old new x y
+abbrev pub CutsFirst : {D : Type 0} → Medium D → Outcome D (Option (ℕ × ℕ))
+CutsFirst {D = D} medium old new x y (Ok (Some told)) =
+    (last : Laptop D) (z : List ℕ) → CutsAll medium new last (y ++ cut_line (transaction_name new.name told.0) told.1) z
+    → CutsAll medium old last x z
+CutsFirst medium old new x y (Ok None) = CutsAll medium old new x y
+CutsFirst medium old new x y (Err halt) = UnlessNoMemory (Err halt) (CutsAll medium old new x y)
 
 -- if one was cut off, one less runs
 abbrev pub RunFewer : Option (ℕ × ℕ) → (old new : List Transaction) → Type 0

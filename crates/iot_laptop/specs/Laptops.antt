@@ -183,7 +183,6 @@ all_second m = record m { first = [] }
 pub record IsCutLink {D : Type 0} (medium : Medium D) (old new : Laptop D) : Type 0 where
   pub place : SamePlace old new
   pub name : new.name ≡ old.name
-  pub alive : is_alive new ≡ is_alive old
   pub stamps : stamps_in new ≡ stamps_in old
   pub disk : disk_in new ≡ disk_in old
   pub stands : (scripts : List Declared) (m : machine.Client) → ClientStands medium scripts old m

@@ -7,7 +7,7 @@ ghost use Rattle.iot_queue.specs.declared.items.Stage.TheVariants.{Conflict as i
 ghost use Rattle.iot_machine.specs.Clients.{most_running};
 ghost use Rattle.iot_kept.specs.States.{numbered};
 ghost use Rattle.iot_laptop.specs.Alone.{CertifiesAlone};
-ghost use Rattle.iot_laptop.specs.Calls.{appended, acts_by, compared_if, done};
+ghost use Rattle.iot_laptop.specs.Calls.{appended, acts_by, certified_if, compared_if, done};
 ghost use Rattle.iot_laptop.specs.Messages.{BringsTree, SpellsTree, IsVerdict};
 
 use crate::laptop::Laptop;
@@ -17,7 +17,7 @@ use crate::verdict::Told;
 use iot_client::{ClientFault, Ended, Step};
 use iot_disk::{Disk, JournalFault};
 use iot_lang::Script;
-use iot_node::{Doubt, Halt, Post, Printed};
+use iot_node::{Doubt, Halt, Post, Printed, Transaction};
 use iot_text::{Name, NoMemory, Text};
 use iot_tree::OnConflict;
 use std::alloc::Global;
@@ -74,6 +74,7 @@ impl<D: Disk> Laptop<D> {
     }
 
     /// Holds what the reply brings for the transaction with this number, which begins anew.
+    #[tactic(auto, using(crate::proofs::NodesLaws::lent_at, crate::proofs::CallsLaws::none_bad, crate::proofs::RefusalsLaws::first_runs))]
     pub fn fetched(
         &mut self,
         alloc: Global,
@@ -100,6 +101,7 @@ impl<D: Disk> Laptop<D> {
     }
 
     /// Begins its next transaction, which does this if it conflicts, first class or not, and gives its number.
+    #[tactic(auto, using(crate::proofs::RefusalsLaws::unrefused, crate::proofs::RefusalsLaws::not_busy))]
     pub fn begin(
         &mut self,
         alloc: Global,
@@ -127,6 +129,7 @@ impl<D: Disk> Laptop<D> {
     }
 
     /// Does the next act of the transaction with this number, or gives why none is done. It is second class if transactions wait.
+    #[tactic(auto, using(crate::proofs::NodesLaws::lent_at, crate::proofs::RefusalsLaws::unrefused, crate::proofs::RefusalsLaws::not_idle))]
     pub fn step(&mut self, alloc: Global, number: u64, out: &mut Text) -> Result<Step, Halt>
         requires stands { Stands D.medium self.old }
         requires place { self.old.place ≤ 7 }
@@ -146,6 +149,7 @@ impl<D: Disk> Laptop<D> {
     }
 
     /// Ends the transaction with this number, whose script has ended or may do no more acts: it waits, or starts again on the view.
+    #[tactic(auto, using(crate::proofs::NodesLaws::lent_at, crate::proofs::EndsLaws::end_fails))]
     pub fn end(&mut self, alloc: Global, number: u64, out: &mut Text) -> Result<Certified, Halt>
         requires stands { Stands D.medium self.old }
         requires over { may_end_if_any (numbered number (state_in self.old).running)
@@ -165,16 +169,8 @@ impl<D: Disk> Laptop<D> {
             Post::Up(seated) => seated.client.end(alloc, number),
             Post::Down(_) | Post::Between => unreachable!(),
         };
-        match self.goes_on(alloc, answer, count, out)? {
-            Ended::Joined { tid, first } => Ok(Certified::Joined(Gone {
-                printed: Printed {
-                    transaction: self.transaction(tid),
-                    output,
-                },
-                first,
-            })),
-            Ended::Again { read, question } => Ok(Certified::Again { read, question }),
-        }
+        let told = certified(&self.name, output, answer);
+        self.goes_on(alloc, told, count, out)
     }
 
     /// What the transaction with this number has printed.
@@ -217,6 +213,7 @@ impl<D: Disk> Laptop<D> {
     }
 
     /// Resolves the first that waits by the script that is planned for it, on the whole tree that the reply brings.
+    #[tactic(auto, using(crate::proofs::CallsLaws::none_bad))]
     pub fn resolve(
         &mut self,
         alloc: Global,
@@ -289,7 +286,6 @@ impl<D: Disk> Laptop<D> {
         requires alive { is_alive self.old ≡ true }
         requires fault { IfErr answer MayFail }
         ensures goes { GoesOn D.medium self.old self.new count answer out.old out.new result }
-        ensures down { IsErrOf result Halt.Over → is_alive self.new ≡ false }
         ensures place { SamePlace self.old self.new }
         ensures disk { disk_in self.new ≡ disk_in self.old }
     {
@@ -299,6 +295,30 @@ impl<D: Disk> Laptop<D> {
         };
         self.post
             .take(journaled(answer), doubt, self.name.as_bytes(), out)
+    }
+}
+
+/// What became of a transaction of the client of this name that was to end, and has printed this.
+fn certified(
+    name: &Name,
+    output: Text,
+    answer: Result<Ended, ClientFault>,
+) -> Result<Certified, ClientFault>
+    ensures { result ≡ certified_if name.now output answer }
+{
+    match answer {
+        Ok(Ended::Joined { tid, first }) => Ok(Certified::Joined(Gone {
+            printed: Printed {
+                transaction: Transaction {
+                    client: *name,
+                    number: tid,
+                },
+                output,
+            },
+            first,
+        })),
+        Ok(Ended::Again { read, question }) => Ok(Certified::Again { read, question }),
+        Err(fault) => Err(fault),
     }
 }
 

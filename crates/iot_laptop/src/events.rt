@@ -21,12 +21,12 @@ impl<D: Disk> Laptop<D> {
     // ---- its link
 
     /// Makes its link up.
+    #[tactic(auto, using(crate::proofs::TrailsLaws::stays_trails))]
     pub fn connect(&mut self, out: &mut Text) -> Result<(), NoMemory>
         ensures step { OnOk result ((scripts : List Declared)
             → Refines (ClientStands D.medium scripts) Connects self.old self.new out.old out.new tt) }
         ensures trails { KeepsTrails self.old self.new }
         ensures place { SamePlace self.old self.new }
-        ensures alive { is_alive self.new ≡ is_alive self.old }
         ensures disk { disk_in self.new ≡ disk_in self.old }
     {
         self.link.connect();
@@ -34,13 +34,13 @@ impl<D: Disk> Laptop<D> {
     }
 
     /// Makes its link not up. What runs is second class from then on.
+    #[tactic(auto, using(crate::proofs::TrailsLaws::stays_trails))]
     pub fn disconnect(&mut self, out: &mut Text) -> Result<(), NoMemory>
         requires { StandsAnyhow D.medium self.old }
         ensures step { OnOk result ((scripts : List Declared)
             → Refines (ClientStands D.medium scripts) Disconnects self.old self.new out.old out.new tt) }
         ensures trails { KeepsTrails self.old self.new }
         ensures place { SamePlace self.old self.new }
-        ensures alive { is_alive self.new ≡ is_alive self.old }
         ensures disk { disk_in self.new ≡ disk_in self.old }
     {
         self.cut_link();
@@ -48,12 +48,12 @@ impl<D: Disk> Laptop<D> {
     }
 
     /// Arms its link to lose a message.
+    #[tactic(auto, using(crate::proofs::TrailsLaws::stays_trails))]
     pub fn lose(&mut self, loss: Loss, out: &mut Text) -> Result<(), NoMemory>
         ensures step { OnOk result ((scripts : List Declared)
             → Refines (ClientStands D.medium scripts) (Loses loss) self.old self.new out.old out.new tt) }
         ensures trails { KeepsTrails self.old self.new }
         ensures place { SamePlace self.old self.new }
-        ensures alive { is_alive self.new ≡ is_alive self.old }
         ensures disk { disk_in self.new ≡ disk_in self.old }
     {
         self.link.arm(loss);
@@ -63,11 +63,11 @@ impl<D: Disk> Laptop<D> {
     // ---- its node
 
     /// Starts for the first time, and tells whether it did. It knows nothing yet. Else it has stopped, which is said.
+    #[tactic(auto, using(crate::proofs::RestartLaws::opens_standing, crate::proofs::RestartLaws::opens_ready))]
     pub fn open(&mut self, alloc: Global, out: &mut Text) -> Result<bool, NoMemory>
         requires { IsUnopened D.medium self.old }
         ensures step { IfOk result (λ on. (scripts : List Declared)
             → Refines (ClientStands D.medium scripts) OpensClient self.old self.new out.old out.new on) }
-        ensures alive { IfOk result (λ on. is_alive self.new ≡ on) }
         ensures trails { OnOk result (KeepsTrails self.old self.new) }
         ensures place { SamePlace self.old self.new }
         ensures disk { KeepsDisk D.medium (disk_in self.old) (disk_in self.new) }
@@ -88,6 +88,7 @@ impl<D: Disk> Laptop<D> {
 
     /// Comes back from one of the images that its disk may have, and cuts off what ran: each waits from now on with as many of
     /// its first acts as hold on the view. Or it stops again, which is said.
+    #[tactic(auto, using(crate::proofs::RestartLaws::is_standing, crate::proofs::RestartLaws::keeps_then))]
     pub fn restart(&mut self, alloc: Global, out: &mut Text) -> Result<(), NoMemory>
         requires { StandsAnyhow D.medium self.old }
         ensures step { OnOk result ((scripts : List Declared)
@@ -116,40 +117,30 @@ impl<D: Disk> Laptop<D> {
         self.cut_off(alloc, out)
     }
 
-    /// Cuts off what ran when it lost its memory, one after the other. Or it stops in that, which is said.
+    /// Cuts off what ran when it lost its memory, one after the other, and says so of each. Or it stops in that, which is said.
+    #[tactic(auto, using(crate::proofs::RestartLaws::keeps_then))]
     fn cut_off(&mut self, alloc: Global, out: &mut Text) -> Result<(), NoMemory>
         requires { Returned D.medium self.old }
-        ensures cuts { OnOk result ((scripts : List Declared) → CutsAll D.medium scripts self.old self.new out.old out.new) }
+        ensures cuts { OnOk result (CutsAll D.medium self.old self.new out.old out.new) }
         ensures trails { OnOk result (KeepsTrails self.old self.new) }
         ensures place { SamePlace self.old self.new }
         ensures disk { KeepsDisk D.medium (disk_in self.old) (disk_in self.new) }
     {
-        match self.cuts(alloc, out) {
-            Ok(()) => Ok(()),
+        match self.cut(alloc, out) {
+            Ok(Some((number, acts))) => {
+                say_cut(&self.transaction(number), acts, out)?;
+                self.cut_off(alloc, out)
+            }
+            Ok(None) => Ok(()),
             Err(Halt::Over) => Ok(()),
             Err(Halt::NoMemory) => Err(NoMemory),
         }
     }
 
-    /// Cuts off what ran, and says so of each.
-    fn cuts(&mut self, alloc: Global, out: &mut Text) -> Result<(), Halt>
-        requires { Returned D.medium self.old }
-        ensures cuts { UnlessNoMemory result ((scripts : List Declared)
-            → CutsAll D.medium scripts self.old self.new out.old out.new) }
-        ensures trails { UnlessNoMemory result (KeepsTrails self.old self.new) }
-        ensures place { SamePlace self.old self.new }
-        ensures disk { KeepsDisk D.medium (disk_in self.old) (disk_in self.new) }
-    {
-        'cuts: while let Some((number, acts)) = self.cut(alloc, out)? {
-            say_cut(&self.transaction(number), acts, out)?;
-        }
-        Ok(())
-    }
-
     /// Cuts off the one that has the least number, if one runs, and tells that and how many acts it keeps.
     fn cut(&mut self, alloc: Global, out: &mut Text) -> Result<Option<(u64, u64)>, Halt>
         requires { Returned D.medium self.old }
-        ensures cuts { (scripts : List Declared) → CutsFirst D.medium scripts self.old self.new out.old out.new result }
+        ensures cuts { CutsFirst D.medium self.old self.new out.old out.new result }
         ensures returned { OnOk result (Returned D.medium self.new) }
         ensures fewer { IfOk result (λ told. RunFewer told (state_in self.old).running (state_in self.new).running) }
         ensures trails { UnlessNoMemory (done result) (KeepsTrails self.old self.new) }

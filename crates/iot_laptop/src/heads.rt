@@ -29,10 +29,8 @@ impl<D: Disk> Laptop<D> {
         requires { Stands D.medium self.now }
         ensures { result ≡ head_name self.now (state_in self.now).items }
     {
-        match self.client().queue().head() {
-            Some(item) => Some(self.transaction(item.tid)),
-            None => None,
-        }
+        let item = self.client().queue().head()?;
+        Some(self.transaction(item.tid))
     }
 
     /// The first that waits, if it is to be decided by hand.

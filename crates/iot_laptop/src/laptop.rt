@@ -1,5 +1,5 @@
 //! A client that was declared, by its name and its place, and its link with the server.
-ghost use Rattle.std.specs.Prelude.{◌≡◌, ◌≤◌, ◌*◌, ◌&&◌, not, nat_lt, true, [], List, None, Some, IfOk, IfSome, length, map, option_map};
+ghost use Rattle.std.specs.Prelude.{◌≡◌, ◌≤◌, ◌*◌, ◌&&◌, not, nat_lt, true, [], List, None, Some, IfOk, length, map, option_map};
 ghost use Rattle.std.specs.Option.{option_copied};
 ghost use Rattle.iot_laptop.specs.Below.{IsRefresh, IsWalk, may_end_if_any, is_over_if_any, live_numbered, Declared, IsEmpty, counts_on};
 ghost use Rattle.iot_client.specs.declared.fault.ClientFault.TheVariants.{NoMemory as no_memory};
@@ -41,7 +41,6 @@ impl<D: Disk> Laptop<D> {
             (unopened_laptop name (counts_on D.medium disk)) }
         ensures unopened { IsUnopened D.medium result }
         ensures place { result.place ≡ place }
-        ensures name { result.name ≡ name }
         ensures disk { disk_in result ≡ Some disk }
     {
         Laptop {
@@ -59,13 +58,6 @@ impl<D: Disk> Laptop<D> {
         &self.name
     }
 
-    /// Its place in the order of declaration.
-    pub fn place(&self) -> u64
-        ensures { result ≡ self.now.place }
-    {
-        self.place
-    }
-
     /// Whether it is alive.
     pub fn is_alive(&self) -> bool
         ensures { result ≡ is_alive self.now }
@@ -76,7 +68,6 @@ impl<D: Disk> Laptop<D> {
     /// The client, if it is alive.
     pub fn lent(&self) -> Option<&Client<D>>
         ensures lent { option_copied result ≡ lent_by self.now.post }
-        ensures stands { Stands D.medium self.now → IfSome (option_copied result) (IsLent D.medium self.now) }
     {
         match &self.post {
             Post::Up(seated) => Some(&seated.client),
@@ -85,6 +76,7 @@ impl<D: Disk> Laptop<D> {
     }
 
     /// The client, which is alive.
+    #[tactic(auto, using(crate::proofs::NodesLaws::lent_at))]
     pub fn client(&self) -> &Client<D>
         requires { Stands D.medium self.now }
         ensures { IsLent D.medium self.now result.now }
@@ -205,13 +197,11 @@ impl<D: Disk> Laptop<D> {
         ensures { IfOk result (λ most. most ≡ 3 * length (state_in self.now).items) }
     {
         let waiting = self.client().queue().items().len() as u64;
-        match waiting.checked_mul(3) {
-            Some(most) => Ok(most),
-            None => Err(NoMemory),
-        }
+        waiting.checked_mul(3).ok_or(NoMemory)
     }
 
     /// Whether it is alive, its link is up, and nothing waits or runs.
+    #[tactic(auto, using(crate::proofs::NodesLaws::some_awake))]
     pub fn is_drained(&self) -> bool
         requires { StandsAnyhow D.medium self.now }
         ensures { result ≡ is_alive self.now && not (waits_of (state_in self.now).items) && not (has_any (state_in self.now).running)
@@ -237,10 +227,7 @@ impl<D: Disk> Laptop<D> {
         requires none { (state_in self.now).items ≡ [] }
         ensures { IfOk result (λ request. IsRefresh self.now.place (stamps_in self.now) want.now request.items) }
     {
-        match self.client().ask(alloc, want) {
-            Ok(request) => Ok(request),
-            Err(fault) => Err(memory(fault)),
-        }
+        self.client().ask(alloc, want).map_err(memory)
     }
 
     /// Asks for what the profile wishes, as much as fits into the limit, in bytes.
@@ -257,10 +244,9 @@ impl<D: Disk> Laptop<D> {
         requires limit { IsWalkLimit limit }
         ensures { IfOk result (λ request. IsWalk self.now.place profile.now limit request.items) }
     {
-        match self.client().ask_walk(alloc, profile, limit) {
-            Ok(request) => Ok(request),
-            Err(fault) => Err(memory(fault)),
-        }
+        self.client()
+            .ask_walk(alloc, profile, limit)
+            .map_err(memory)
     }
 }
 

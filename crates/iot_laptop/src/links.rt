@@ -32,6 +32,7 @@ impl<D: Disk> Laptop<D> {
 
     /// Takes one exchange with a server that is alive or not, and tells how far it gets. What runs is second class after one that
     /// did not get through.
+    #[tactic(auto, using(crate::proofs::RestartLaws::stands_over))]
     pub fn pass(&mut self, server_up: bool) -> Passage
         requires { Stands D.medium self.old }
         ensures passage { result ≡ passage self.old.link server_up }
@@ -48,6 +49,7 @@ impl<D: Disk> Laptop<D> {
     }
 
     /// Its link is broken, since the server stopped in an exchange. What runs is second class from then on.
+    #[tactic(auto, using(crate::proofs::RestartLaws::stands_over))]
     pub fn broke(&mut self)
         requires { Stands D.medium self.old }
         ensures after { Relinked D.medium break self.old self.new }
@@ -58,6 +60,7 @@ impl<D: Disk> Laptop<D> {
     }
 
     /// All that run are second class from now on.
+    #[tactic(auto, using(crate::proofs::ClassesLaws::all_reclassed))]
     fn second(&mut self)
         requires { Stands D.medium self.old }
         ensures { Reclassed D.medium all_second self.old self.new }

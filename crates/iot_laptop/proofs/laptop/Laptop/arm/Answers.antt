@@ -1,7 +1,8 @@
 use Rattle.std.proofs.lemmas.Result.{IfOk-weaker}
 use Rattle.iot_laptop.specs.Below.{no_text}
 use Rattle.iot_laptop.proofs.TrailsLaws.{again_trails}
-use Rattle.iot_laptop.proofs.RestartLaws.{arms, live_again}
+use Rattle.iot_laptop.proofs.RestartLaws.{arms}
+use Rattle.iot_laptop.proofs.SeatsLaws.{besides_again}
 use Rattle.iot_laptop.proofs.laptop.Laptop.arm.Goals as goal
 
 pub returns-clause-step : goal.returns-clause-step
@@ -9,7 +10,7 @@ returns-clause-step g c =
     IfOk-weaker c.arm.result _ _
     (λ _ step.
     arms g.D.Disk.medium c.args.self.now c.arm.new.self c.args.calls c.args.pick
-    (live_again c.args.self.now.post c.arm.new.self c.arm.ensures.live) c.args.out.now c.arm.new.out
+    (besides_again c.args.self.now.post c.arm.new.self c.arm.ensures.live) c.args.out.now c.arm.new.out
     (rw c.as_bytes.ensures.value at (step c.args.self.now.place no_text)))
     c.arm.ensures.step
 

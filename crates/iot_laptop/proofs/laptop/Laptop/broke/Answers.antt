@@ -1,9 +1,6 @@
 use Rattle.std.proofs.Common.{[]}
-use Rattle.iot_laptop.proofs.RestartLaws.{stands_over, over_second}
+use Rattle.iot_laptop.proofs.RestartLaws.{over_second}
 use Rattle.iot_laptop.proofs.laptop.Laptop.broke.Goals as goal
-
-pub second-requires : goal.second-requires
-second-requires g c = stands_over g.D.Disk.medium c.args.self.now c.broke.new.self c.requires
 
 pub returns-clause-after : goal.returns-clause-after
 returns-clause-after g c =

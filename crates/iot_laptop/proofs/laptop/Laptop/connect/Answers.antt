@@ -7,6 +7,3 @@ use Rattle.iot_laptop.proofs.laptop.Laptop.connect.Goals as goal
 pub returns-clause-step : goal.returns-clause-step
 returns-clause-step g c =
     relinks g.D.Disk.medium c.args.self.now _ (connected true) connect_line c.connect.new.self _ _ c.connect.ensures c.say_named.ensures
-
-pub returns-clause-trails : goal.returns-clause-trails
-returns-clause-trails g c = λ server bound positive it. it

@@ -2,7 +2,6 @@ use Rattle.std.proofs.Common.{refl, sym, ◌∙◌}
 use Rattle.std.proofs.lemmas.Result.{IfOk-weaker}
 use Rattle.iot_laptop.specs.Below.{no_text}
 use Rattle.iot_laptop.proofs.CallsLaws.{was_ok, was_stopped}
-use Rattle.iot_laptop.proofs.NodesLaws.{at_post}
 use Rattle.iot_laptop.proofs.laptop.Laptop.goes_on.Goals as goal
 
 pub returns-clause-goes : goal.returns-clause-goes
@@ -12,8 +11,9 @@ returns-clause-goes g c = record {
       (c.take.ensures.step c.args.self.now.place was now no_text change node is up (rw c.journaled.ensures appends)
       (record { count = λ n s here. counted ∙ here.counted; lines = λ n s here. c.new.ensures }));
   answers = IfOk-weaker c.take.result _ _ (λ t is. was_ok c.args.answer t (sym c.journaled.ensures ∙ is)) c.take.ensures.answers;
-  same = IfOk-weaker c.take.result _ _ (λ _ is. at_post c.args.self.now c.take.new.self (sym is)) c.take.ensures.same;
+  same = IfOk-weaker c.take.result _ _ (λ _ is. rw is) c.take.ensures.same;
   silent = c.take.ensures.silent;
+  down = c.take.ensures.off;
   stopped = λ over. was_stopped c.args.answer (sym c.journaled.ensures ∙ c.take.ensures.stopped over);
   rest = refl;
 }

@@ -7,6 +7,3 @@ pub returns-clause-step : goal.returns-clause-step
 returns-clause-step g c =
     relinks g.D.Disk.medium c.args.self.now _ (arming c.args.loss) (λ name. lose_line name c.args.loss) c.arm.new.self _ _ c.arm.ensures
     c.say_lose.ensures
-
-pub returns-clause-trails : goal.returns-clause-trails
-returns-clause-trails g c = λ server bound positive it. it

@@ -1,14 +1,8 @@
 use Rattle.iot_laptop.specs.Below.{no_text}
 use Rattle.std.proofs.lemmas.Result.{IfOk-weaker}
 use Rattle.iot_laptop.proofs.TrailsLaws.{fresh_trails}
-use Rattle.iot_laptop.proofs.RestartLaws.{opens, opens_ready, opens_standing}
+use Rattle.iot_laptop.proofs.RestartLaws.{opens}
 use Rattle.iot_laptop.proofs.laptop.Laptop.open.Goals as goal
-
-pub open-requires-clause-stands : goal.open-requires-clause-stands
-open-requires-clause-stands g c = opens_standing g.D.Disk.medium c.args.self.now c.requires
-
-pub open-requires-clause-ready : goal.open-requires-clause-ready
-open-requires-clause-ready g c = opens_ready g.D.Disk.medium c.args.self.now c.requires
 
 pub returns-clause-step : goal.returns-clause-step
 returns-clause-step g c =
@@ -20,5 +14,4 @@ returns-clause-step g c =
 
 pub returns-clause-trails : goal.returns-clause-trails
 returns-clause-trails g c =
-    IfOk-weaker c.open.result _ _
-    (λ on live server bound positive it. fresh_trails c.open.new.self on live server bound positive) c.open.ensures.live
+    IfOk-weaker c.open.result _ _ (fresh_trails c.args.self.now c.open.new.self) c.open.ensures.live

@@ -1,8 +1,5 @@
-use Rattle.iot_laptop.proofs.RestartLaws.{not_through, stands_over, is_over}
+use Rattle.iot_laptop.proofs.RestartLaws.{not_through, is_over}
 use Rattle.iot_laptop.proofs.laptop.Laptop.pass.Goals as goal
-
-pub second-requires : goal.second-requires
-second-requires g c = stands_over g.D.Disk.medium c.args.self.now c.outcome-passage.new.self c.requires
 
 pub returns-in-Away : goal.returns-in-Away
 returns-in-Away g c = record {

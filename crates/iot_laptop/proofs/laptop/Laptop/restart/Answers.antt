@@ -1,8 +1,8 @@
-use Rattle.std.proofs.Common.{◌≡◌, Bool, sym, subst, ◌∙◌}
+use Rattle.std.proofs.Common.{◌≡◌, Bool, sym, subst, rules, ◌∙◌}
 use Rattle.std.proofs.lemmas.Result.{IfOk-weaker}
 use Rattle.iot_laptop.specs.Below.{no_text}
 use Rattle.iot_laptop.proofs.TrailsLaws.{fresh_trails}
-use Rattle.iot_laptop.proofs.RestartLaws.{CameBack, says_up, is_standing, stops_again, came_again, is_back, comes_back, came_back}
+use Rattle.iot_laptop.proofs.RestartLaws.{CameBack, says_up, stops_again, came_again, is_back, comes_back, came_back}
 use Rattle.iot_laptop.proofs.RestartLaws.{keeps_then}
 use Rattle.iot_laptop.proofs.laptop.Laptop.restart.Given.{Over}
 use Rattle.iot_laptop.proofs.laptop.Laptop.restart.Goals.{In_ok-come_back}
@@ -25,43 +25,30 @@ pub returns-then-is_alive-clause-step : goal.returns-then-is_alive-clause-step
 returns-then-is_alive-clause-step g c =
     says_up g.D.Disk.medium c.args.self.now c.args.out.now c.say.new.out (sym c.is_alive.ensures ∙ c.if-is_alive.true) c.in_ok-say.ensures
 
-pub come_back-requires-clause-stands : goal.come_back-requires-clause-stands
-come_back-requires-clause-stands g c = is_standing g.D.Disk.medium c.args.self.now c.requires
-
-pub returns-then-not-branch-clause-step : goal.returns-then-not-branch-clause-step
-returns-then-not-branch-clause-step g c =
-    let on = back g (goal.at.returns-then-not-branch-clause-step g c).In_ok-come_back _ c.if-not-branch.true in
-    stops_again _ _ _ _ _ on
-
-pub returns-then-not-branch-clause-came : goal.returns-then-not-branch-clause-came
-returns-then-not-branch-clause-came g c = λ down.
-    let on = back g (goal.at.returns-then-not-branch-clause-came g c).In_ok-come_back _ c.if-not-branch.true in
-    came_again _ _ _ _ _ on
-
 pub cut_off-requires : goal.cut_off-requires
 cut_off-requires g c = is_back _ _ _ _ _ (back g (goal.at.cut_off-requires g c).In_ok-come_back _ c.if-not-branch.false) c.requires
 
-pub returns-clause-step : goal.returns-clause-step
-returns-clause-step g c =
-    let on = back g (goal.at.returns-clause-step g c).In_ok-come_back _ c.if-not-branch.false in
-    IfOk-weaker c.cut_off.result _ _ (λ _. comes_back _ _ _ _ _ on c.cut_off.new.self c.cut_off.new.out) c.cut_off.ensures.cuts
+pub returns-then-not-branch : goal.returns-then-not-branch
+returns-then-not-branch g c =
+    let on = back g (goal.at.returns-then-not-branch g c).In_ok-come_back _ c.if-not-branch.true in
+    record {
+      step = stops_again _ _ _ _ _ on;
+      came = λ down. came_again _ _ _ _ _ on;
+      trails = fresh_trails c.args.self.now c.come_back.new.self c.in_ok-come_back.field-0 c.in_ok-come_back.ensures.live;
+      place = search rules;
+      disk = search rules;
+    }
 
-pub returns-clause-came : goal.returns-clause-came
-returns-clause-came g c = λ down.
-    let on = back g (goal.at.returns-clause-came g c).In_ok-come_back _ c.if-not-branch.false in
-    IfOk-weaker c.cut_off.result _ _ (λ _. came_back _ _ _ _ _ on c.cut_off.new.self c.cut_off.new.out) c.cut_off.ensures.cuts
-
-pub returns-clause-disk : goal.returns-clause-disk
-returns-clause-disk g c = keeps_then g.D.Disk.medium _ _ _ c.come_back.ensures.disk c.cut_off.ensures.disk
-
-pub returns-then-not-branch-clause-trails : goal.returns-then-not-branch-clause-trails
-returns-then-not-branch-clause-trails g c = λ server bound positive it.
-    fresh_trails c.come_back.new.self c.in_ok-come_back.field-0 c.in_ok-come_back.ensures.live server bound positive
-
-pub returns-clause-trails : goal.returns-clause-trails
-returns-clause-trails g c =
-    IfOk-weaker c.cut_off.result _ _
-    (λ _ keeps server bound positive it.
-    keeps server bound positive
-    (fresh_trails c.come_back.new.self c.in_ok-come_back.field-0 c.in_ok-come_back.ensures.live server bound positive))
-    c.cut_off.ensures.trails
+pub returns : goal.returns
+returns g c =
+    let on = back g (goal.at.returns g c).In_ok-come_back _ c.if-not-branch.false in
+    let cut = c.cut_off.ensures.cuts in
+    record {
+      step = IfOk-weaker c.cut_off.result _ _ (λ _. comes_back _ _ _ _ _ on c.cut_off.new.self c.cut_off.new.out) cut;
+      came = λ down. IfOk-weaker c.cut_off.result _ _ (λ _. came_back _ _ _ _ _ on c.cut_off.new.self c.cut_off.new.out) cut;
+      trails = IfOk-weaker c.cut_off.result _ _ (λ _ keeps server bound positive it.
+          keeps server bound positive (fresh_trails c.args.self.now c.come_back.new.self c.in_ok-come_back.field-0
+          c.in_ok-come_back.ensures.live server bound positive it)) c.cut_off.ensures.trails;
+      place = search rules;
+      disk = keeps_then g.D.Disk.medium _ _ _ c.come_back.ensures.disk c.cut_off.ensures.disk;
+    }

@@ -1,9 +1,6 @@
 use Rattle.iot_laptop.proofs.SeatsLaws.{seat_comes, seat_fails, seat_fresh}
 use Rattle.iot_laptop.proofs.seated.SeatedKeeper.start.Goals as goal
 
-pub start-requires : goal.start-requires
-start-requires g c = record { is = c.requires.only.is }
-
 pub returns-in-Ok-clause-comes : goal.returns-in-Ok-clause-comes
 returns-in-Ok-clause-comes g c =
     seat_comes g.D.Disk.medium c.args.disk c.args.place c.in-Ok.client c.in-Ok.ensures.only c.in-Ok.ensures.stands c.in-Ok.ensures.tied
