@@ -17,9 +17,9 @@ use Rattle.iot_laptop.proofs.RestartLaws as restarts
 use Rattle.iot_exchange.specs.Words.{unless_over, begin, Starts, StandsAnyhow, StartsAlone, set_class, EndsAlone, Medium, Call, Try, Gets}
 use Rattle.iot_exchange.specs.Words.{Asks, Answers, Tells, Then, Goes, either, Repeats, OrSays, or_text, Declared, ClientState, Client}
 use Rattle.iot_exchange.specs.Words.{Pair, OnConflict, unless_stopped, Notes, KeepsDisk, StepsTo, Halt, NoMemory, Over, disk_of}
-use Rattle.iot_exchange.specs.Words.{ServerStands, ServerNode, KeepsRecords, Stands, awake, disk_in, SamePlace, Laptop, NotesAlone, Whole}
+use Rattle.iot_exchange.specs.Words.{ServerStands, ServerNode, Stands, awake, disk_in, SamePlace, Laptop, NotesAlone, Whole}
 use Rattle.iot_exchange.specs.Words.{is_alive, fallen, Nodes, after_acts, Item, is_drained, IfUp, line, pends, runs, SyncsAll, ItemsStand}
-use Rattle.iot_exchange.specs.Words.{KeepsBeside, on_both}
+use Rattle.iot_exchange.specs.Words.{on_both}
 use Rattle.iot_exchange.specs.Words.{KeepsTrails, UnlessNoMemory, state_in, stamps_in, waits_of, ClientStands, done, has_any, kept}
 use Rattle.iot_exchange.specs.Words.{Compared, Compares, Yields, yield_if, YieldsAlone, YieldsAndNotes, yields_by, yielding}
 use Rattle.iot_exchange.specs.Words.{CertifiesAlone, ComparesAlone, certify_alone, change_by, notes_found}
@@ -27,9 +27,11 @@ use Rattle.iot_laptop.specs.Alone as alone
 use Rattle.iot_machine.specs.Transactions as machine
 use Rattle.iot_judging.specs.Lists.{Follows}
 use Rattle.iot_judging.proofs.FollowingLaws.{follows_kept}
-use Rattle.iot_exchange.specs.Pairs.{Both, two, IsAt, UpStands, AnyStands, IsReadyWith, IsStandingWith, KeepsDisks, PairStands, Does}
+use Rattle.iot_exchange.specs.Pairs.{Both, two, IsAt, UpStands, AnyStands, IsReadyWith, IsStandingWith, KeepsDisks, KeepsServed, PairStands}
+use Rattle.iot_exchange.specs.Pairs.{Does, DoesFrom, Steps}
 use Rattle.iot_exchange.specs.Queues.{SyncsNext}
-use Rattle.iot_exchange.proofs.StepsLaws.{From, Steps, at_each, at_one, joined}
+use Rattle.iot_exchange.proofs.StepsLaws.{answers_from, asks_from, at_each, behind, joined, quiet, refuses_from, says_from}
+use Rattle.iot_exchange.proofs.StepsLaws.{then_from}
 use Rattle.iot_exchange.proofs.StepsLaws as steps
 
 -- a call that leaves the client alive
@@ -37,14 +39,21 @@ abbrev pub StepsOn : {D A : Type 0} → Medium D → List Declared → (names : 
     → (x y : List ℕ) → A → Type 0
 StepsOn medium scripts names c call u v x y a = StepsTo (UpStands medium scripts names c) (UpStands medium scripts names c) call u v x y a
 
--- at the same place, under the same name
-pub at_as : {D : Type 0} {P Q : Laptop D → Client → Type 0} {names : List (List ℕ)} {c : ℕ} {old new : Laptop D} {m n : Client}
-    → IsAt P names c old m → Q new n → new.place ≡ old.place → n.name ≡ m.name → IsAt Q names c new n
-at_as here is place name = record {
-  is = is;
-  place = place ∙ here.place;
-  named = here.named ∙ ap (λ (name : List ℕ). Some name) (sym name);
-  few = here.few;
+-- the same pair with another client in its place, under the same name
+pub in_place : {D : Type 0} {medium : Medium D} {P Q : Laptop D → Client → Type 0} {names : List (List ℕ)} {c : ℕ} {old new : Laptop D}
+    {server : ServerNode D} {pair : Pair} {n : Client} → PairStands c (IsAt P names c) (ServerStands medium names) (two old server) pair
+    → Q new n → SamePlace old new → n.name ≡ pair.client.name → Follows (stamps_in new) pair.server.durable
+    → PairStands c (IsAt Q names c) (ServerStands medium names) (two new server) (record pair { client = n })
+in_place here is place name follows = record {
+  place = here.place;
+  client = record {
+    is = is;
+    place = place ∙ here.client.place;
+    named = here.client.named ∙ ap (λ (name : List ℕ). Some name) (sym name);
+    few = here.client.few;
+  };
+  server = here.server;
+  follows = follows;
 }
 
 -- ---- disks
@@ -89,10 +98,13 @@ module _ {D : Type 0} {medium : Medium D} where
 
   -- the client's is the same
   pub keeps_served : {u : Both D} {laptop : Laptop D} {server : ServerNode D} → KeepsDisks medium u u → disk_in laptop ≡ disk_in u.laptop
-      → KeepsDisk (on_both medium) (disk_of u.server) (disk_of server) → KeepsBeside medium u.server server
-      → KeepsRecords (on_both medium) (disk_of u.server) (disk_of server) → KeepsDisks medium u (two laptop server)
-  keeps_served keeps same served beside records =
-      record { client = rw same keeps.client; server = served; beside = beside; records = records }
+      → KeepsServed medium u.server server → KeepsDisks medium u (two laptop server)
+  keeps_served keeps same served =
+      record { client = rw same keeps.client; server = served.server; beside = served.beside; records = served.records }
+
+  pub keeps_passed : {u : Both D} {laptop : Laptop D} → KeepsDisks medium u u → disk_in laptop ≡ disk_in u.laptop
+      → KeepsDisks medium u (two laptop u.server)
+  keeps_passed keeps same = keeps_served keeps same (record { server = keeps.server; beside = keeps.beside; records = keeps.records })
 
   pub laptop_keeps : {laptop : Laptop D} → Stands medium laptop → KeepsDisk medium (disk_in laptop) (disk_in laptop)
   laptop_keeps {laptop} here = laptops.keeps_same medium laptop.post (is_awake medium here.scripts laptop here.machine here.stands)
@@ -102,12 +114,7 @@ module _ {D : Type 0} {medium : Medium D} where
   -- one that is alive stands for its pair anyhow
   pub still : {scripts : List Declared} {names : List (List ℕ)} {c : ℕ} {u : Both D} {pair : Pair} → UpStands medium scripts names c u pair
       → AnyStands medium scripts names c u pair
-  still here = record {
-    place = here.place;
-    client = at_as here.client (awake here.client.is) refl refl;
-    server = here.server;
-    follows = here.follows;
-  }
+  still here = in_place here (awake here.client.is) refl refl here.follows
 
   module _ {scripts : List Declared} {names : List (List ℕ)} {c : ℕ} {u : Both D} {pair : Pair} where
     pub anyhow : AnyStands medium scripts names c u pair → StandsAnyhow medium u.laptop
@@ -145,20 +152,28 @@ module _ {D : Type 0} {medium : Medium D} where
 abbrev pub OfEach : {D : Type 0} → Medium D → List Declared → Both D → (Pair → Type 0) → Type 0
 OfEach medium scripts u P = (names : List (List ℕ)) (c : ℕ) (pair : Pair) → UpStands medium scripts names c u pair → P pair
 
--- what is done from this pair
-abbrev pub DoesFrom : {D A : Type 0} → Medium D → List Declared → (names : List (List ℕ)) → (c : ℕ) → Try Pair A → Pair → Both D
-    → (x y : List ℕ) → Result A Halt → Type 0
-DoesFrom medium scripts names c call pair v x y result =
-    From (UpStands medium scripts names c) (AnyStands medium scripts names c) call pair v x y result
-
 module _ {D : Type 0} {medium : Medium D} {scripts : List Declared} where
   -- ---- one call, and then another
+
+  pub each_from : {A : Type 0} {call : Try Pair A} {u v : Both D} {x y : List ℕ} {result : Result A Halt} → KeepsDisks medium u v
+      → ((names : List (List ℕ)) (c : ℕ) (pair : Pair) → UpStands medium scripts names c u pair
+      → DoesFrom medium scripts names c call pair v x y result)
+      → Does medium scripts call u v x y result
+  each_from keeps each = record { step = each; disks = keeps }
+
+  -- from one pair, by which what follows may go
+  pub goes_from : {A B : Type 0} {one : Try Pair A} {next : A → Try Pair B} {u v w : Both D} {x y z : List ℕ} {a : A}
+      {inner : Result A Halt} {result : Result B Halt} {names : List (List ℕ)} {c : ℕ} {pair : Pair} → inner ≡ Ok a
+      → Does medium scripts one u v x y inner → UpStands medium scripts names c u pair
+      → ((after : Pair) → UpStands medium scripts names c v after → DoesFrom medium scripts names c (next a) after w y z result)
+      → DoesFrom medium scripts names c (Goes one next) pair w x z result
+  goes_from was it here each = let went = rw was at it in let s = (went.step _ _ _ here).is in behind s (each s.next s.stands)
 
   pub goes_then : {A B : Type 0} {one : Try Pair A} {next : A → Try Pair B} {u v w : Both D} {x y z : List ℕ} {a : A}
       {inner : Result A Halt} {result : Result B Halt} → inner ≡ Ok a → Does medium scripts one u v x y inner
       → Does medium scripts (next a) v w y z result → Does medium scripts (Goes one next) u w x z result
-  goes_then was it more = record {
-    step = λ names c. steps.goes_then was (it.step names c) (more.step names c);
+  goes_then {next = next} was it more = record {
+    step = λ names c pair here. goes_from {next = next} was it here (more.step names c);
     disks = keeps_then it.disks more.disks;
   }
 
@@ -166,14 +181,19 @@ module _ {D : Type 0} {medium : Medium D} {scripts : List Declared} where
   pub hands_on : {A B : Type 0} {one : Try Pair A} {next : A → Try Pair B} {u v : Both D} {x y : List ℕ} {inner : Result A Halt}
       {outer : Result B Halt} {fault : Halt} → inner ≡ Err fault → IsErrAnd outer (λ other. other ≡ fault)
       → Does medium scripts one u v x y inner → Does medium scripts (Goes one next) u v x y outer
-  hands_on was is it = record { step = λ names c. steps.hands_on was is (it.step names c); disks = it.disks }
+  hands_on {outer = Ok value} was is it = absurd is
+  hands_on {outer = Err other} {fault = NoMemory} was is it =
+      rw is (record { step = λ names c pair here. record { is = tt }; disks = it.disks })
+  hands_on {outer = Err other} {fault = Over} was is it = rw is (each_from it.disks (λ names c pair here.
+      let over = rw was at it in
+      let s = (over.step names c pair here).is in behind s (record { is = quiet _ (refl, refl, refl) s.stands })))
 
   -- a call that always goes on
   pub then_does : {A B : Type 0} {one : Call Pair A} {next : A → Try Pair B} {u v w : Both D} {x y z : List ℕ} {a : A}
       {result : Result B Halt} → ((names : List (List ℕ)) (c : ℕ) → StepsOn medium scripts names c one u v x y a)
       → KeepsDisks medium u v → Does medium scripts (next a) v w y z result → Does medium scripts (Then one next) u w x z result
   then_does it keeps more = record {
-    step = λ names c. steps.then_ends (it names c) (more.step names c);
+    step = λ names c pair here. then_from (it names c) here (more.step names c);
     disks = keeps_then keeps more.disks;
   }
 
@@ -181,45 +201,27 @@ module _ {D : Type 0} {medium : Medium D} {scripts : List Declared} where
   pub asks_then : {A B : Type 0} {ask : Pair → A} {next : A → Try Pair B} {u v : Both D} {x y : List ℕ} {a : A} {result : Result B Halt}
       → OfEach medium scripts u (λ pair. a ≡ ask pair) → Does medium scripts (next a) u v x y result
       → Does medium scripts (Then (Asks ask) next) u v x y result
-  asks_then is it = record {
-    step = λ names c. steps.then_ends (steps.asks (is names c)) (it.step names c);
-    disks = it.disks;
-  }
-
-  -- ---- from one pair
-
-  pub each_from : {A : Type 0} {call : Try Pair A} {u v : Both D} {x y : List ℕ} {result : Result A Halt} → KeepsDisks medium u v
-      → ((names : List (List ℕ)) (c : ℕ) (pair : Pair) → UpStands medium scripts names c u pair
-      → DoesFrom medium scripts names c call pair v x y result)
-      → Does medium scripts call u v x y result
-  each_from keeps each = record { step = λ names c. steps.each_from (each names c); disks = keeps }
-
-  pub from : {A : Type 0} {call : Try Pair A} {u v : Both D} {x y : List ℕ} {result : Result A Halt}
-      → Does medium scripts call u v x y result → {names : List (List ℕ)} {c : ℕ} {pair : Pair} → UpStands medium scripts names c u pair
-      → DoesFrom medium scripts names c call pair v x y result
-  from it {names} {c} here = steps.from (it.step names c) here
+  asks_then is it = record { step = λ names c pair here. asks_from (is names c pair here) (it.step names c pair here); disks = it.disks }
 
   -- ---- answers, refusals, and what is said
 
   pub answers : {A : Type 0} {u v : Both D} {x : List ℕ} {a : A} → KeepsDisks medium u v
       → Does medium scripts (Answers (Some a)) v v x x (Ok a)
-  answers keeps = record { step = λ names c. record { is = steps.asks (λ pair here. refl) }; disks = keeps_now keeps }
+  answers keeps = record { step = λ names c pair here. answers_from here; disks = keeps_now keeps }
 
   pub tells : {A : Type 0} {text : Pair → List ℕ} {u v : Both D} {x y : List ℕ} {a : A} → KeepsDisks medium u v
       → OfEach medium scripts v (λ pair. y ≡ x ++ text pair) → Does medium scripts (Tells text (Some a)) v v x y (Ok a)
-  tells keeps wrote = record { step = λ names c. steps.says (wrote names c); disks = keeps_now keeps }
+  tells keeps wrote = record { step = λ names c pair here. says_from (wrote names c pair here) here; disks = keeps_now keeps }
 
   pub refuses : {A : Type 0} {text : List ℕ} {u v : Both D} {x y : List ℕ} → KeepsDisks medium u v → y ≡ x ++ text
       → Does {A = A} medium scripts (Tells (λ _. text) None) v v x y (Err Over)
-  refuses keeps wrote =
-      record { step = λ names c. steps.refuses (λ pair here. wrote) (λ pair here. still here); disks = keeps_now keeps }
+  refuses keeps wrote = record { step = λ names c pair here. refuses_from wrote (still here); disks = keeps_now keeps }
 
   -- it goes on, and then this is answered, or said
   pub then_answers : {A B : Type 0} {one : Try Pair A} {f : A → B} {u v : Both D} {x y : List ℕ} {a : A} {b : B} {inner : Result A Halt}
       → inner ≡ Ok a → b ≡ f a → Does medium scripts one u v x y inner
       → Does medium scripts (Goes one (λ a. Answers (Some (f a)))) u v x y (Ok b)
-  then_answers {one = one} {f = f} {u = u} {v = v} {x = x} {y = y} was is it =
-      rw is (goes_then {next = λ a. Answers (Some (f a))} was it (answers it.disks))
+  then_answers {f = f} was is it = rw is (goes_then {next = λ a. Answers (Some (f a))} was it (answers it.disks))
 
   pub then_tells : {A B : Type 0} {one : Try Pair A} {text : Pair → List ℕ} {u v : Both D} {x y z : List ℕ} {a : A} {b : B}
       {inner : Result A Halt} → inner ≡ Ok a → Does medium scripts one u v x y inner
@@ -231,21 +233,32 @@ module _ {D : Type 0} {medium : Medium D} {scripts : List Declared} where
   pub or_says : {A : Type 0} {call : Try Pair A} {other : List ℕ} {u v : Both D} {x z w : List ℕ} {result : Result A Halt}
       → ((text : List ℕ) → z ≡ x ++ text → w ≡ x ++ or_text other text) → Does medium scripts call u v x z result
       → Does medium scripts (OrSays other call) u v x w result
-  or_says each it = record { step = λ names c. steps.or_says each (it.step names c); disks = it.disks }
+  or_says {result = Err NoMemory} each it = record { step = λ names c pair here. record { is = tt }; disks = it.disks }
+  or_says {other = other} each it = each_from it.disks (λ names c pair here.
+      let s = (it.step names c pair here).is in
+      record {
+        is = record {
+          text = or_text other s.text;
+          next = s.next;
+          wrote = each s.text s.wrote;
+          step = record { said = s.text; done = s.step; is = refl };
+          stands = s.stands;
+        };
+      })
 
   -- ---- want of memory
 
   pub no_memory : {A : Type 0} {call : Try Pair A} {u v : Both D} {x y : List ℕ} {outer : Result A Halt}
       → IsErrAnd outer (λ halt. halt ≡ NoMemory) → KeepsDisks medium u v → Does medium scripts call u v x y outer
   no_memory {outer = Ok value} is keeps = absurd is
-  no_memory {outer = Err halt} is keeps = rw is (record { step = λ names c. record { is = tt }; disks = keeps })
+  no_memory {outer = Err halt} is keeps = rw is (record { step = λ names c pair here. record { is = tt }; disks = keeps })
 
   -- ---- after a call that goes on
 
   pub ready_after : {A : Type 0} {call : Try Pair A} {u v : Both D} {x y : List ℕ} {a : A} {inner : Result A Halt} → inner ≡ Ok a
       → Does medium scripts call u v x y inner → {names : List (List ℕ)} {c : ℕ} {pair : Pair} → UpStands medium scripts names c u pair
       → IsReadyWith medium scripts v
-  ready_after was it {names} {c} {pair} here = let done = rw was at it in ready_by ((done.step names c).is.step pair here).4
+  ready_after was it here = let went = rw was at it in ready_by (went.step _ _ _ here).is.stands
 
 -- ---- what the client does alone
 
@@ -296,11 +309,6 @@ starts script option first = lift_then (lift_gets (λ client. client.node.durabl
 pub yields_name : (number : ℕ) (pends : Bool) (m : Client) → (yields_by number pends m).name ≡ m.name
 yields_name number true m = refl
 yields_name number false m = refl
-
--- only classes change
-pub yields_kept : (number : ℕ) (pends : Bool) (m : Client) → (yields_by number pends m).node ≡ m.node
-yields_kept number true m = refl
-yields_kept number false m = refl
 
 yields_by_pair : (number : ℕ) (pends : Bool) (pair : Pair)
     → record pair { client = yields_by number pends pair.client } ≡ yield_if number pends pair
@@ -361,85 +369,55 @@ certifies_one number = lift_then (lift_gets (λ client. clients.numbered number 
 
 -- ---- one call of the client
 
--- a call that answers nothing is done, or was not
-just_done : (result : Result (Unit {0}) Halt) → done result ≡ result
-just_done (Ok a) = refl
-just_done (Err halt) = refl
+-- what is so of a call unless memory ran out
+abbrev pub Unless : {A : Type 0} → Result A Halt → Type 0 → Type 0
+Unless (Ok a) P = P
+Unless (Err NoMemory) P = Unit {0}
+Unless (Err Over) P = P
 
--- what the client holds after a call still follows the server's list, unless memory ran out
-abbrev pub FollowsNow : {D : Type 0} → Medium D → List Declared → Both D → Laptop D → Result (Unit {0}) Halt → Type 0
-FollowsNow medium scripts v new result =
-    UnlessNoMemory result ((names : List (List ℕ)) (c : ℕ) (pair : Pair) → UpStands medium scripts names c v pair
-    → Follows (stamps_in new) pair.server.durable)
+pub unless_done : {A : Type 0} (P : Type 0) (result : Result A Halt) → UnlessNoMemory (done result) P → Unless result P
+unless_done P (Ok a) so = so
+unless_done P (Err halt) so = so
 
-still_follows : {D : Type 0} (medium : Medium D) (scripts : List Declared) (v : Both D) (new : Laptop D) (result : Result (Unit {0}) Halt)
-    → UnlessNoMemory result (KeepsTrails v.laptop new) → FollowsNow medium scripts v new result
-still_follows medium scripts v new (Err NoMemory) trails = tt
-still_follows medium scripts v new (Err Over) trails = λ names c pair here. follows_kept _ _ pair.server.durable trails here.follows
-still_follows medium scripts v new (Ok done) trails = λ names c pair here. follows_kept _ _ pair.server.durable trails here.follows
+unless_more : {A P Q : Type 0} (result : Result A Halt) → (P → Q) → Unless result P → Unless result Q
+unless_more (Err NoMemory) more so = tt
+unless_more result more so = more so
 
 module _ {D : Type 0} {medium : Medium D} where
   lifted : {A : Type 0} {one : Try Client A} {call : Try Pair A} {P Q : Laptop D → Client → Type 0} {old new : Laptop D}
-      {server : ServerNode D} {x y : List ℕ} {a : Option A} (names : List (List ℕ)) (c : ℕ) → Lifts one call → SamePlace old new
-      → ((pair : Pair) → PairStands c (IsAt P names c) (ServerStands medium names) (two old server) pair
-      → Follows (stamps_in new) pair.server.durable)
-      → StepsTo P Q one old new x y a
-      → StepsTo (PairStands c (IsAt P names c) (ServerStands medium names)) (PairStands c (IsAt Q names c) (ServerStands medium names)) call
-      (two old server) (two new server) x y a
-  lifted {a = a} names c lifts place follows it = record {
-    step = λ pair here.
-        let t = it.step pair.client here.client.is in
-        let did = lifts.lift pair t.0 a t.1 t.3 in (
-          t.0,
-          record pair { client = t.1 },
-          t.2,
-          did.0,
-          record {
-            place = here.place;
-            client = at_as here.client t.4 place did.1;
-            server = here.server;
-            follows = follows pair here;
-          },
-        );
-  }
+      {server : ServerNode D} {x y : List ℕ} {a : Option A} {names : List (List ℕ)} {c : ℕ} {pair : Pair} → Lifts one call
+      → SamePlace old new → PairStands c (IsAt P names c) (ServerStands medium names) (two old server) pair
+      → Follows (stamps_in new) pair.server.durable → StepsTo P Q one old new x y a
+      → Steps (PairStands c (IsAt Q names c) (ServerStands medium names)) call pair (two new server) x y a
+  lifted {a = a} {pair = pair} lifts place here follows it =
+      let t = it.step pair.client here.client.is in
+      let did = lifts.lift pair t.0 a t.1 t.3 in record {
+        text = t.0;
+        next = record pair { client = t.1 };
+        wrote = t.2;
+        step = did.0;
+        stands = in_place here t.4 place did.1 follows;
+      }
 
-  -- one that answers anything
-  pub by_call_of : {A : Type 0} {scripts : List Declared} {one : Try Client A} {call : Try Pair A} {u v : Both D} {new : Laptop D}
-      {x y : List ℕ} {result : Result A Halt} → Lifts one call → KeepsDisks medium u v → SamePlace v.laptop new
-      → FollowsNow medium scripts v new (done result) → EndsAlone medium scripts one v.laptop new x y result
-      → KeepsDisk medium (disk_in v.laptop) (disk_in new) → Does medium scripts call v (two new v.server) x y result
-  by_call_of {result = Err NoMemory} lifts keeps place follows it more =
-      record { step = λ names c. record { is = tt }; disks = keeps_more (keeps_now keeps) more }
-  by_call_of {result = Err Over} lifts keeps place follows it more = record {
-    step = λ names c. record { is = lifted names c lifts place (follows names c) it.is };
-    disks = keeps_more (keeps_now keeps) more;
-  }
-  by_call_of {result = Ok a} lifts keeps place follows it more = record {
-    step = λ names c. record { is = lifted names c lifts place (follows names c) it.is };
-    disks = keeps_more (keeps_now keeps) more;
-  }
-
-  -- and does not ask the server
-  pub by_client_of : {A : Type 0} {scripts : List Declared} {one : Try Client A} {call : Try Pair A} {u v : Both D} {new : Laptop D}
-      {x y : List ℕ} {result : Result A Halt} → Lifts one call → KeepsDisks medium u v → SamePlace v.laptop new
-      → UnlessNoMemory (done result) (KeepsTrails v.laptop new) → EndsAlone medium scripts one v.laptop new x y result
-      → KeepsDisk medium (disk_in v.laptop) (disk_in new) → Does medium scripts call v (two new v.server) x y result
-  by_client_of {scripts = scripts} {v = v} {new = new} {result = result} lifts keeps place trails it more =
-      by_call_of lifts keeps place (still_follows medium scripts v new (done result) trails) it more
-
-  module _ {scripts : List Declared} {one : Try Client (Unit {0})} {call : Try Pair (Unit {0})} {u v : Both D} {new : Laptop D}
-      {x y : List ℕ} {result : Result (Unit {0}) Halt} (lifts : Lifts one call) (keeps : KeepsDisks medium u v)
-      (place : SamePlace v.laptop new) where
-    pub by_call : FollowsNow medium scripts v new result → EndsAlone medium scripts one v.laptop new x y result
-        → KeepsDisk medium (disk_in v.laptop) (disk_in new) → Does medium scripts call v (two new v.server) x y result
-    by_call follows it more =
-        by_call_of lifts keeps place
-        (subst (λ (r : Result (Unit {0}) Halt). FollowsNow medium scripts v new r) (sym (just_done result)) follows) it more
+  module _ {A : Type 0} {scripts : List Declared} {one : Try Client A} {call : Try Pair A} {u v : Both D} {new : Laptop D} {x y : List ℕ} where
+    -- what it holds then still follows the server's list
+    pub by_call : {result : Result A Halt} → Lifts one call → KeepsDisks medium u v → SamePlace v.laptop new
+        → Unless result (OfEach medium scripts v (λ pair. Follows (stamps_in new) pair.server.durable))
+        → EndsAlone medium scripts one v.laptop new x y result → KeepsDisk medium (disk_in v.laptop) (disk_in new)
+        → Does medium scripts call v (two new v.server) x y result
+    by_call {result = Err NoMemory} lifts keeps place follows it more =
+        record { step = λ names c pair here. record { is = tt }; disks = keeps_more (keeps_now keeps) more }
+    by_call lifts keeps place follows it more = record {
+      step = λ names c pair here. record { is = lifted lifts place here (follows names c pair here) it.is };
+      disks = keeps_more (keeps_now keeps) more;
+    }
 
     -- one that does not ask the server
-    pub by_client : UnlessNoMemory result (KeepsTrails v.laptop new) → EndsAlone medium scripts one v.laptop new x y result
+    pub by_client : {result : Result A Halt} → Lifts one call → KeepsDisks medium u v → SamePlace v.laptop new
+        → Unless result (KeepsTrails v.laptop new) → EndsAlone medium scripts one v.laptop new x y result
         → KeepsDisk medium (disk_in v.laptop) (disk_in new) → Does medium scripts call v (two new v.server) x y result
-    by_client trails it more = by_call (still_follows medium scripts v new result trails) it more
+    by_client {result} lifts keeps place trails it more = by_call lifts keeps place
+        (unless_more result (λ kept names c pair here. follows_kept _ _ pair.server.durable kept here.follows) trails) it more
 
 -- ---- again and again
 
@@ -535,49 +513,37 @@ alive_is {medium = medium} {scripts} {laptop} {m} (fallen here) = is_down medium
 
 wholly : {W : Type 0} {P Q : W → Pair → Type 0} {call : Try Pair (Unit {0})} {o : Option (Unit {0})} {pair : Pair} {v : W} {x y : List ℕ}
     → ((n : Pair) → P v n → Q v n) → Steps P call pair v x y o → Steps Q (Whole call) pair v x y tt
-wholly {y = y} less it = joined it (record {
-  text = [];
-  next = it.next;
-  wrote = sym (append-nil y);
-  step = (refl, refl);
-  stands = less it.next it.stands;
-})
+wholly less it = joined it (quiet _ (refl, refl) (less it.next it.stands))
+
+abbrev IsTask : {D : Type 0} → Medium D → List Declared → (names : List (List ℕ)) → (c : ℕ) → Try Pair (Unit {0}) → (u v : Both D)
+    → (x y : List ℕ) → Type 0
+IsTask medium scripts names c call u v x y =
+    StepsTo (AnyStands medium scripts names c) (AnyStands medium scripts names c) (IfUp call) u v x y tt
 
 module _ {D : Type 0} {medium : Medium D} {scripts : List Declared} {u : Both D} where
   up_there : {names : List (List ℕ)} {c : ℕ} {pair : Pair} → is_alive u.laptop ≡ true → AnyStands medium scripts names c u pair
       → UpStands medium scripts names c u pair
-  up_there {pair = pair} alive here = record {
-    place = here.place;
-    client = at_as here.client (awake_stands medium scripts u.laptop pair.client alive here.client.is) refl refl;
-    server = here.server;
-    follows = here.follows;
-  }
+  up_there {pair = pair} alive here =
+      in_place here (awake_stands medium scripts u.laptop pair.client alive here.client.is) refl refl here.follows
 
   pub ready_there : is_alive u.laptop ≡ true → IsStandingWith medium scripts u → IsReadyWith medium scripts u
   ready_there alive it = ready_by (up_there alive it.stands)
 
-  module _ {call : Try Pair (Unit {0})} {x y : List ℕ} where
+  module _ {call : Try Pair (Unit {0})} {x y : List ℕ} (names : List (List ℕ)) (c : ℕ) where
     -- it says that it is down
-    pub says_down : is_alive u.laptop ≡ false → y ≡ x ++ line (codes "down") → (names : List (List ℕ)) (c : ℕ)
-        → StepsTo (AnyStands medium scripts names c) (AnyStands medium scripts names c) (IfUp call) u u x y tt
-    says_down down wrote names c =
+    pub says_down : is_alive u.laptop ≡ false → y ≡ x ++ line (codes "down") → IsTask medium scripts names c call u u x y
+    says_down down wrote =
         steps.bind {a = false} (steps.asks (λ pair here. sym down ∙ alive_is here.client.is)) (calls.says u x y (λ pair here. wrote))
 
-    module _ {v : Both D} (names : List (List ℕ)) (c : ℕ) where
-      if_up : is_alive u.laptop ≡ true
-          → ((pair : Pair) → UpStands medium scripts names c u pair → Steps (AnyStands medium scripts names c) (Whole call) pair v x y tt)
-          → StepsTo (AnyStands medium scripts names c) (AnyStands medium scripts names c) (IfUp call) u v x y tt
-      if_up alive each = steps.bind {a = true} (steps.asks (λ pair here. sym alive ∙ alive_is here.client.is))
+    module _ {v : Both D} {inner : Result (Unit {0}) Halt} (alive : is_alive u.laptop ≡ true)
+        (it : Does medium scripts call u v x y inner) where
+      if_up : ((pair : Pair) → UpStands medium scripts names c u pair → Steps (AnyStands medium scripts names c) (Whole call) pair v x y tt)
+          → IsTask medium scripts names c call u v x y
+      if_up each = steps.bind {a = true} (steps.asks (λ pair here. sym alive ∙ alive_is here.client.is))
           (at_each (λ pair here. each pair (up_there alive here)))
 
-    module _ {v : Both D} {inner : Result (Unit {0}) Halt} (alive : is_alive u.laptop ≡ true) (it : Does medium scripts call u v x y inner)
-        (names : List (List ℕ)) (c : ℕ) where
-      pub all_done : inner ≡ Ok tt
-          → StepsTo (AnyStands medium scripts names c) (AnyStands medium scripts names c) (IfUp call) u v x y tt
-      all_done was =
-          let done = rw was at it in if_up names c alive (λ pair here. wholly (λ n here. still here) (at_one (done.step names c).is here))
+      pub all_done : inner ≡ Ok tt → IsTask medium scripts names c call u v x y
+      all_done was = let did = rw was at it in if_up (λ pair here. wholly (λ n here. still here) (did.step names c pair here).is)
 
-      pub all_over : inner ≡ Err Over
-          → StepsTo (AnyStands medium scripts names c) (AnyStands medium scripts names c) (IfUp call) u v x y tt
-      all_over was =
-          let done = rw was at it in if_up names c alive (λ pair here. wholly (λ n here. here) (at_one (done.step names c).is here))
+      pub all_over : inner ≡ Err Over → IsTask medium scripts names c call u v x y
+      all_over was = let did = rw was at it in if_up (λ pair here. wholly (λ n here. here) (did.step names c pair here).is)

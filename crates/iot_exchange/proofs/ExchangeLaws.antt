@@ -1,9 +1,9 @@
 -- An exchange of a client with the server; what a client asks for, and holds if it comes; and what it knows of its transactions.
-use Rattle.std.proofs.Common.{◌≡◌, ℕ, ◌+◌, List, ◌++◌, Option, Some, None, Result, Ok, Err, Bool, true, false, Vec, refl, sym, ap, subst}
+use Rattle.std.proofs.Common.{◌≡◌, ℕ, List, ◌++◌, Option, Some, None, Result, Ok, Err, Bool, true, false, Vec, refl, sym, ap, subst}
 use Rattle.std.proofs.Common.{◌∙◌, []}
 use Rattle.std.proofs.Common.{◌∷◌, ◌<◌, ◌^◌, length, arith}
 use Rattle.std.proofs.lemmas.Bool.{ltb-true}
-use Rattle.std.specs.Prelude.{IfErr, not, nat_lt}
+use Rattle.std.specs.Prelude.{not, nat_lt}
 use Rattle.std.specs.declared.alloc.Global.{Global}
 use Rattle.iot_server_node.proofs.ServersLaws.{up_is}
 use Rattle.iot_standing.proofs.StatesLaws.{many_is, runs_is, waits_is}
@@ -20,9 +20,11 @@ use Rattle.iot_exchange.specs.Words.{Laptop, SpellsTree, BringsTree, AsksAll, Is
 use Rattle.iot_exchange.specs.Words.{Stamps, TakesStamps, new_client, nodes_of, nothing_held, reply_spelling, stamps_in}
 use Rattle.iot_exchange.specs.Words.{stamps_of}
 use Rattle.iot_exchange.specs.Pairs.{Both, two, IsAt, UpStands, Query, Objects, Judgment, AsksFor, Spells, request_of, Serves, Exchanges}
-use Rattle.iot_exchange.specs.Pairs.{Asked, IsReady, KeepsDisks, Does, IfReplied, StaysUp}
-use Rattle.iot_exchange.proofs.DoesLaws.{StepsOn, at_as, OfEach, then_does, answers, FollowsNow}
-use Rattle.iot_exchange.proofs.StepsLaws.{bind, gets, asks, then_ends}
+use Rattle.iot_exchange.specs.Pairs.{Asked, Came, KeepsDisks, Does, IfReplied, answered}
+use Rattle.iot_exchange.proofs.DoesLaws.{StepsOn, in_place, OfEach, then_does, answers, by_call, notes, Unless}
+use Rattle.iot_exchange.proofs.StepsLaws.{bind, gets, asks}
+use Rattle.iot_exchange.specs.Words.{Changes as ChangesAlone, KeepsDisk, Notes, SamePlace, disk_in}
+use Rattle.iot_machine.specs.Transactions.{counted}
 use Rattle.iot_kept.specs.Bringing.{brought}
 use Rattle.iot_machine.specs.Clients.{snapshot}
 use Rattle.iot_machine.proofs.WholeLaws.{whole_comes}
@@ -36,11 +38,6 @@ use Rattle.iot_wire.proofs.SpellingLaws.{reply_laws}
 use Rattle.iot_judging.specs.Lists.{Follows}
 use Rattle.iot_judging.proofs.FollowingLaws.{Grows, follows_on}
 use Rattle.iot_exchange.proofs.FollowingLaws.{follows_nothing, follows_brought, held_is, makes_cut, nodes_none, nothing_tree, up_stamps}
-
--- what is so anyhow
-pub on_err : {T E P : Type 0} (r : Result T E) → P → IfErr r (λ _. P)
-on_err (Ok t) so = tt
-on_err (Err e) so = so
 
 -- ---- what the server does
 
@@ -78,6 +75,14 @@ same_name p m = refl
 
 -- ---- what the server makes of it
 
+-- a request that the server answered counts
+counts : {D A : Type 0} {medium : Medium D} {scripts : List Declared} {names : List (List ℕ)} {c : ℕ} (a : Option A) {w : Both D}
+    {z : List ℕ} → StepsTo (λ w pair. (pair.place ≡ c) × IsAt (LaptopStands medium scripts) names c w.laptop pair.client
+    × ServerStands medium names w.server pair.server (answered a pair.requests) × Follows (stamps_in w.laptop) pair.server.durable)
+    (UpStands medium scripts names c) (counted a) w w z z a
+counts None = gets (λ pair here. (refl, record { place = here.0; client = here.1; server = here.2; follows = here.3 }))
+counts (Some a) = gets (λ pair here. (refl, record { place = here.0; client = here.1; server = here.2; follows = here.3 }))
+
 module _ {D A : Type 0} {medium : Medium D} {scripts : List Declared} {names : List (List ℕ)} {c : ℕ} {server later : ServerNode D}
     {request : Call (Node (List Commit)) (Option A)} {x y : List ℕ} {laptop : Laptop D}
     (grows : (node after : Node (List Commit)) (text : List ℕ) (a : Option A) → request node text a after
@@ -109,18 +114,9 @@ module _ {D A : Type 0} {medium : Medium D} {scripts : List Declared} {names : L
   handles : {Spelled : List ℕ → A → Type 0} (reply : Option (Vec ℕ Global))
       → Serves (ServerStands medium names) Spelled request reply server later x y
       → Exchanges (UpStands medium scripts names c) Spelled (Handles request) reply (two laptop server) (two laptop later) x y
-  handles None it = record {
-    is = bind (by_server (λ n. n) it.is) (gets (λ pair here.
-        (refl, record { place = here.0; client = here.1; server = here.2; follows = here.3 })));
-  }
-  handles (Some reply) it = record {
-    is = (
-      it.is.0,
-      it.is.1,
-      bind (by_server (λ n. n + 1) it.is.2) (gets (λ pair here.
-          (refl, record { place = here.0; client = here.1; server = here.2; follows = here.3 }))),
-    );
-  }
+  handles None it = record { is = bind (by_server (answered {A = A} None) it.is) (counts None) }
+  handles (Some reply) it =
+      record { is = (it.is.0, it.is.1, bind (by_server (answered (Some it.is.0)) it.is.2) (counts (Some it.is.0))) }
 
 -- ---- an exchange that gets so far
 
@@ -138,12 +134,9 @@ passed {medium = medium} {old} {new} up is after how = record {
 
 -- a reply comes only of a server that is up
 reached_up : (link_up : Bool) (armed : Option Loss) (server_up : Bool) → passage_by link_up armed server_up ≡ Reaches → server_up ≡ true
-reached_up false armed server_up is = absurd cc
-reached_up true (Some losses.Request) server_up is = absurd cc
-reached_up true (Some losses.Reply) false is = absurd cc
-reached_up true (Some losses.Reply) true is = absurd cc
-reached_up true None false is = absurd cc
 reached_up true None true is = refl
+reached_up true (Some losses.Reply) true is = absurd cc
+reached_up link_up armed server_up is = absurd cc
 
 pub reached : {D : Type 0} {medium : Medium D} {old new : Laptop D} {server : ServerNode D} → Passed medium old new server Reaches
     → is_up server ≡ true
@@ -155,12 +148,8 @@ module _ {D : Type 0} {medium : Medium D} {old new : Laptop D} {server : ServerN
     linked : {p : Passage} {later : ServerNode D} {pair : Pair} → Passed medium old new server p
         → UpStands medium scripts names c (two old later) pair
         → UpStands medium scripts names c (two new later) (record pair { client = after_passage p pair.client })
-    linked {p} {pair = pair} it here = record {
-      place = here.place;
-      client = at_as here.client (it.after.stands scripts pair.client here.client.is) it.after.place (same_name p pair.client);
-      server = here.server;
-      follows = subst (λ (held : Stamps). Follows held pair.server.durable) (sym it.after.stamps) here.follows;
-    }
+    linked {p} {pair = pair} it here = in_place here (it.after.stands scripts pair.client here.client.is) it.after.place
+        (same_name p pair.client) (subst (λ (held : Stamps). Follows held pair.server.durable) (sym it.after.stamps) here.follows)
 
     module _ {A : Type 0} {request : Call (Node (List Commit)) (Option A)} where
       exchanged : {p : Passage} {v : Both D} {x y : List ℕ} {a : Option A} → Passed medium old new server p
@@ -206,10 +195,11 @@ module _ {D : Type 0} {medium : Medium D} {old new : Laptop D} {server : ServerN
             → Exchanges (UpStands medium scripts names c) Spelled (Exchange request) None (two old server) (two last later) x y
         none_comes it served broke = record {
           is = exchanged it (bind (handles grows None served).is (gets (λ pair here.
-              let mid = linked it here in
-              let client = at_as mid.client (broke.stands scripts pair.client mid.client.is) broke.place refl in
-              let follows = subst (λ (held : Stamps). Follows held pair.server.durable) (sym broke.stamps) mid.follows in
-              (refl, record { place = here.place; client = client; server = here.server; follows = follows }))));
+              let mid = linked it here in (
+                refl,
+                in_place mid (broke.stands scripts pair.client mid.client.is) broke.place refl
+                    (subst (λ (held : Stamps). Follows held pair.server.durable) (sym broke.stamps) mid.follows),
+              ))));
         }
 
 -- ---- tests
@@ -242,23 +232,33 @@ has_room many is = by (nat_lt many most_running) refl is
 
 -- ---- what is held
 
-module _ {D : Type 0} {medium : Medium D} {scripts : List Declared} {u v : Both D} {x y : List ℕ} (errand : Errand) where
-  brings : {names : List (List ℕ)} {c : ℕ} {o : Option Nodes}
-      → StepsOn medium scripts names c (Exchange (Lends (state_in u.laptop).held errand)) u v x y o
-      → StepsOn medium scripts names c (Brings errand) u v x y o
-  brings it = bind (asks (λ pair here. here.client.is.state.held)) it
+brings : {D : Type 0} {medium : Medium D} {scripts : List Declared} {u v : Both D} {x y : List ℕ} (errand : Errand) {names : List (List ℕ)}
+    {c : ℕ} {o : Option Nodes} → StepsOn medium scripts names c (Exchange (Lends (state_in u.laptop).held errand)) u v x y o
+    → StepsOn medium scripts names c (Brings errand) u v x y o
+brings errand it = bind (asks (λ pair here. here.client.is.state.held)) it
 
+module _ {D : Type 0} {medium : Medium D} {scripts : List Declared} {u v : Both D} {x y : List ℕ} (errand : Errand)
+    (change : Nodes → ClientState → ClientState) (keeps : KeepsDisks medium u v) where
   -- nothing came
-  pub missed : (change : Nodes → ClientState → ClientState) → ((names : List (List ℕ)) (c : ℕ)
+  pub missed : ((names : List (List ℕ)) (c : ℕ)
       → StepsOn medium scripts names c (Exchange (Lends (state_in u.laptop).held errand)) u v x y None)
-      → KeepsDisks medium u v → Does medium scripts (Holds change errand) u v x y (Ok false)
-  missed change none keeps = then_does {next = holds change} (λ names c. brings (none names c)) keeps (answers keeps)
+      → Does medium scripts (Holds change errand) u v x y (Ok false)
+  missed none = then_does {next = holds change} (λ names c. brings errand (none names c)) keeps (answers keeps)
 
--- what an asking client and the server are after an exchange with a reply: the client as it was, and the server up
-pub record Replied {D : Type 0} (message : Message) (u v : Both D) : Type 0 where
-  pub same : v.laptop ≡ u.laptop
-  pub lends : (client : ℕ) (held : Stamps) (errand : Errand) → IsErrand client held errand message.request.items
-      → StaysUp u.server v.server
+  pub no_reply : {message : Message} → Asked medium message None u v x y
+      → IsErrand u.laptop.place (stamps_in u.laptop) errand message.request.items
+      → Does medium scripts (Holds change errand) u v x y (Ok false)
+  no_reply asked is = missed (λ names c. (asked.is scripts names c
+      (Objects u.laptop.place (stamps_in u.laptop) (stamps_of u.server) (state_in u.laptop).held errand)
+      (is, refl, held_is u.laptop.post)).is)
+
+-- the errand for the server's whole tree
+abbrev pub whole_errand : Errand
+whole_errand = Refresh (wanted.Below [])
+
+pub asks_whole : {D : Type 0} {laptop : Laptop D} {item : Item} {request : List ℕ} → AsksAll laptop item request
+    → IsErrand laptop.place nothing_held whole_errand request
+asks_whole asks = rw nothing_sent asks.asked
 
 -- the reply makes one tree of a held one
 same_tree : {held : Stamps} {bytes : List ℕ} {t u : Nodes} → length bytes < 2 ^ 64 → SpellsTree held bytes t → SpellsTree held bytes u
@@ -268,136 +268,114 @@ same_tree {held} {bytes} short one other =
     let same : one.changes ≡ other.changes = let objects = only _ _ one.spelled other.spelled in cc in
     one.is ∙ ap (λ (changes : Changes). nodes_of (brought held changes)) same ∙ sym other.is
 
-module _ {D : Type 0} {medium : Medium D} (client : ℕ) (held : Stamps) (tree : Nodes) (errand : Errand) {message : Message}
-    {u v : Both D} (is : IsErrand client held errand message.request.items)
-    (tree_is : tree ≡ nodes_of held) (replied : Replied message u v)
-    (holds_there : (scripts : List Declared) (names : List (List ℕ)) (c : ℕ) (pair : Pair) → UpStands medium scripts names c v pair
-    → Follows held pair.server.durable × IsTree (nodes_of held)) where
-  abbrev asks_for : Query
-  asks_for = Objects client held (stamps_of u.server) tree errand
+-- the reply to a client that holds this lends this tree
+pub record Lent {D : Type 0} (medium : Medium D) (held : Stamps) (errand : Errand) (reply : List ℕ) (call : Call Pair (Option Nodes))
+    (u v : Both D) (x y : List ℕ) : Type 0 where
+  pub tree : Nodes
+  pub cut : SpellsCut (stamps_of u.server) held errand reply tree
+  pub spells : SpellsTree (base_of held errand) reply tree
+  pub steps : (scripts : List Declared) (names : List (List ℕ)) (c : ℕ) → StepsOn medium scripts names c call u v x y (Some tree)
+  -- what is held then still follows the server's list
+  pub follows : (scripts : List Declared)
+      → OfEach medium scripts v (λ pair. Follows (brought (base_of held errand) spells.changes) pair.server.durable)
 
-  -- its stamps are those of each list for which it stands then
-  its_stamps : (scripts : List Declared) (names : List (List ℕ)) (c : ℕ) (pair : Pair) → UpStands medium scripts names c v pair
-      → stamps_of u.server ≡ (state_of pair.server.durable).stamps
-  its_stamps scripts names c pair here =
-      let stays = replied.lends client held errand is in
-      sym stays.stamps ∙ up_stamps medium names v.server pair.server pair.requests stays.up here.server
+module _ {D : Type 0} {medium : Medium D} {message : Message} {reply : Vec ℕ Global} {u v : Both D} {x y : List ℕ}
+    (came : Came medium message reply u v x y) where
+  short : length reply.items < 2 ^ 64
+  short = omega (arith, reply.ok, reply.small)
 
-  module _ {reply : Vec ℕ Global} {x y : List ℕ} (ready : IsReady medium u)
-      (asked : (scripts : List Declared) → Asked medium scripts message (Some reply) u v x y) where
-    abbrev first : IfReplied (Spells asks_for) (Some reply) (λ a. StepsTo (UpStands medium ready.scripts ready.names ready.c)
-        (UpStands medium ready.scripts ready.names ready.c) (Exchange (request_of asks_for)) u v x y a)
-    first = ((asked ready.scripts).is ready.names ready.c asks_for (is, refl, tree_is)).is
+  module _ (client : ℕ) (held : Stamps) (tree : Nodes) (errand : Errand) (is : IsErrand client held errand message.request.items)
+      (tree_is : tree ≡ nodes_of held)
+      (there : (scripts : List Declared) → OfEach medium scripts v (λ pair. Follows held pair.server.durable × IsTree (nodes_of held))) where
+    -- its stamps are those of each list for which it stands then
+    its_stamps : (scripts : List Declared) → OfEach medium scripts v (λ pair. stamps_of u.server ≡ (state_of pair.server.durable).stamps)
+    its_stamps scripts names c pair here =
+        let stays = came.lends client held errand is in
+        sym stays.stamps ∙ up_stamps medium names v.server pair.server pair.requests stays.up here.server
+
+    abbrev replied : (scripts : List Declared) (names : List (List ℕ)) (c : ℕ)
+        → IfReplied (SpellsCut (stamps_of u.server) held errand) (Some reply) (StepsOn medium scripts names c (Exchange (Lends tree errand)) u v x y)
+    replied scripts names c =
+        (came.asked.is scripts names c (Objects client held (stamps_of u.server) tree errand) (is, refl, tree_is)).is
 
     -- what the reply spells makes a tree of what is held
-    pub spells_tree : {t : Nodes} → SpellsCut (stamps_of u.server) held errand reply.items t → SpellsTree (base_of held errand) reply.items t
+    spells_tree : {t : Nodes} → SpellsCut (stamps_of u.server) held errand reply.items t → SpellsTree (base_of held errand) reply.items t
     spells_tree cut =
-        let s = first.2.step ready.pair ready.stands in
-        let there = holds_there ready.scripts ready.names ready.c s.1 s.4 in
-        makes_cut held s.1.server.durable (stamps_of u.server) errand reply.items _ there.0 there.1
+        let ready = came.ready in
+        let s = (replied ready.scripts ready.names ready.c).2.step ready.pair ready.stands in
+        let now = there ready.scripts ready.names ready.c s.1 s.4 in
+        makes_cut held s.1.server.durable (stamps_of u.server) errand reply.items _ now.0 now.1
         (its_stamps ready.scripts ready.names ready.c s.1 s.4) cut
 
-    pub brings_tree : BringsTree (base_of held errand) reply.items
-    brings_tree = record { tree = first.0; is = spells_tree first.1 }
+    lent : Lent medium held errand reply.items (Exchange (Lends tree errand)) u v x y
+    lent =
+        let first = replied came.ready.scripts came.ready.names came.ready.c in
+        let spells = spells_tree first.1 in record {
+          tree = first.0;
+          cut = first.1;
+          spells = spells;
+          steps = λ scripts names c.
+              let e = replied scripts names c in
+              subst (λ (t : Nodes). StepsOn medium scripts names c (Exchange (Lends tree errand)) u v x y (Some t))
+              (same_tree short (spells_tree e.1) spells) e.2;
+          follows = λ scripts names c pair here.
+              let now = there scripts names c pair here in
+              follows_brought held pair.server.durable (stamps_of u.server) errand reply.items first.0 now.0 now.1
+              (its_stamps scripts names c pair here) first.1 spells.changes short spells.spelled;
+        }
 
-    -- then what is held still follows the server's list
-    pub still_after : (scripts : List Declared) (names : List (List ℕ)) (c : ℕ) (pair : Pair) → UpStands medium scripts names c v pair
-        → Follows (brought (base_of held errand) brings_tree.is.changes) pair.server.durable
-    still_after scripts names c pair here =
-        let there = holds_there scripts names c pair here in
-        follows_brought held pair.server.durable (stamps_of u.server) errand reply.items first.0 there.0 there.1
-        (its_stamps scripts names c pair here) first.1 brings_tree.is.changes
-        (omega (arith, reply.ok, reply.small)) brings_tree.is.spelled
+  -- ---- what a client holds
 
--- ---- what a client holds
+  module _ (errand : Errand) (is : IsErrand u.laptop.place (stamps_in u.laptop) errand message.request.items) where
+    lent_own : Lent medium (stamps_in v.laptop) errand reply.items (Exchange (Lends (state_in u.laptop).held errand)) u v x y
+    lent_own = lent u.laptop.place (stamps_in v.laptop) (state_in u.laptop).held errand
+        (subst (λ (laptop : Laptop D). IsErrand u.laptop.place (stamps_in laptop) errand message.request.items) (sym came.same) is)
+        (held_is u.laptop.post ∙ ap (λ (laptop : Laptop D). nodes_of (stamps_in laptop)) (sym came.same))
+        (λ scripts names c pair here. (here.follows, subst IsTree (held_is v.laptop.post) here.client.is.state.tree))
 
-module _ {D : Type 0} {medium : Medium D} {message : Message} {reply : Vec ℕ Global} {u v : Both D} {x y : List ℕ}
-    (ready : IsReady medium u) (asked : (scripts : List Declared) → Asked medium scripts message (Some reply) u v x y)
-    (replied : Replied message u v) where
-  own_there : (scripts : List Declared) (names : List (List ℕ)) (c : ℕ) (pair : Pair) → UpStands medium scripts names c v pair
-      → Follows (stamps_in u.laptop) pair.server.durable × IsTree (nodes_of (stamps_in u.laptop))
-  own_there scripts names c pair here = (
-    subst (λ (laptop : Laptop D). Follows (stamps_in laptop) pair.server.durable) replied.same here.follows,
-    subst (λ (laptop : Laptop D). IsTree (nodes_of (stamps_in laptop))) replied.same
-        (subst IsTree (held_is v.laptop.post) here.client.is.state.tree),
-  )
-
-  module _ (client : ℕ) (errand : Errand) (is : IsErrand client (stamps_in u.laptop) errand message.request.items) where
-    -- the reply makes a tree of it
+    -- the reply makes a tree of it, ..
     pub brings_own : BringsTree (base_of (stamps_in v.laptop) errand) reply.items
-    brings_own =
-        subst (λ (laptop : Laptop D). BringsTree (base_of (stamps_in laptop) errand) reply.items) (sym replied.same)
-        (brings_tree client (stamps_in u.laptop) (state_in u.laptop).held errand is (held_is u.laptop.post) replied own_there ready asked)
+    brings_own = record { tree = lent_own.tree; is = lent_own.spells }
 
-    -- which is held, ..
-    pub came : {scripts : List Declared} (change : Nodes → ClientState → ClientState) {w : Both D} {z : List ℕ} {result : Result Bool Halt}
-        → KeepsDisks medium u w
+    -- .. which is held
+    pub holds_own : {scripts : List Declared} {new : Laptop D} {z : List ℕ} {inner : Result (Unit {0}) Halt} {outer : Result Bool Halt}
+        (change : Nodes → ClientState → ClientState) → KeepsDisks medium u v
         → ((t : Nodes) → SpellsTree (base_of (stamps_in v.laptop) errand) reply.items t
-        → Does medium scripts (holds change (Some t)) v w y z result)
-        → Does medium scripts (Holds change errand) u w x z result
-    came {scripts} change keeps each = record {
-      step = λ names c.
-          let e = ((asked scripts).is names c (Objects client (stamps_in u.laptop) (stamps_of u.server) (state_in u.laptop).held errand)
-          (is, refl, held_is u.laptop.post)).is in
-          let spells = spells_tree client (stamps_in u.laptop) (state_in u.laptop).held errand is (held_is u.laptop.post) replied own_there
-          ready asked e.1 in
-          then_ends {next = holds change} (brings errand e.2)
-          ((each e.0
-          (subst (λ (laptop : Laptop D). SpellsTree (base_of (stamps_in laptop) errand) reply.items e.0) (sym replied.same) spells)).step names c);
-      disks = keeps;
-    }
+        → ChangesAlone medium (change t) v.laptop new y z inner)
+        → SamePlace v.laptop new → TakesStamps (base_of (stamps_in v.laptop) errand) reply.items v.laptop new inner
+        → KeepsDisk medium (disk_in v.laptop) (disk_in new)
+        → ((t : Nodes) → Does medium scripts (Notes (change t)) v (two new v.server) y z inner
+        → Does medium scripts (holds change (Some t)) v (two new v.server) y z outer)
+        → Does medium scripts (Holds change errand) u (two new v.server) x z outer
+    holds_own {scripts} {new} {inner = inner} change keeps does place takes more after =
+        then_does {next = holds change} (λ names c. brings errand (lent_own.steps scripts names c)) keeps
+        (after lent_own.tree (by_call (notes (change lent_own.tree)) keeps place (followed inner takes)
+        (does lent_own.tree lent_own.spells scripts) more))
+      where
+        followed : (inner : Result (Unit {0}) Halt) → TakesStamps (base_of (stamps_in v.laptop) errand) reply.items v.laptop new inner
+            → Unless inner (OfEach medium scripts v (λ pair. Follows (stamps_in new) pair.server.durable))
+        followed (Ok done) takes = λ names c pair here. subst (λ (now : Stamps). Follows now pair.server.durable)
+            (sym (takes lent_own.spells.changes lent_own.spells.spelled)) (lent_own.follows scripts names c pair here)
+        followed (Err NoMemory) takes = tt
+        followed (Err Over) takes = λ names c pair here.
+            subst (λ (now : Stamps). Follows now pair.server.durable) (sym takes) (follows_nothing pair.server.durable)
 
-    -- .. and goes on following the server's list
-    pub takes : (scripts : List Declared) (new : Laptop D) (result : Result (Unit {0}) Halt)
-        → TakesStamps (base_of (stamps_in v.laptop) errand) reply.items v.laptop new result → FollowsNow medium scripts v new result
-    takes scripts new (Ok done) takes_it = λ names c pair here.
-        let own = brings_tree client (stamps_in u.laptop) (state_in u.laptop).held errand is (held_is u.laptop.post) replied own_there ready
-        asked in
-        subst (λ (now : Stamps). Follows now pair.server.durable)
-        (sym (takes_it own.is.changes own.is.spelled
-        ∙ ap (λ (laptop : Laptop D). brought (base_of (stamps_in laptop) errand) own.is.changes) replied.same))
-        (still_after client (stamps_in u.laptop) (state_in u.laptop).held errand is (held_is u.laptop.post) replied own_there ready asked
-        scripts names c pair here)
-    takes scripts new (Err NoMemory) takes_it = tt
-    takes scripts new (Err Over) takes_it = λ names c pair here.
-        subst (λ (now : Stamps). Follows now pair.server.durable) (sym takes_it) (follows_nothing pair.server.durable)
+  -- ---- the server's whole tree
 
--- ---- the server's whole tree
+  module _ (asks : IsErrand u.laptop.place nothing_held whole_errand message.request.items) where
+    pub lent_whole : Lent medium nothing_held whole_errand reply.items (Exchange (Lends new_client.held whole_errand)) u v x y
+    lent_whole = lent u.laptop.place nothing_held new_client.held whole_errand asks (sym nodes_none)
+        (λ scripts names c pair here. (follows_nothing pair.server.durable, nothing_tree))
 
-abbrev pub whole_errand : Errand
-whole_errand = Refresh (wanted.Below [])
-
-pub asks_whole : {D : Type 0} {laptop : Laptop D} {item : Item} {request : List ℕ} → AsksAll laptop item request
-    → IsErrand laptop.place nothing_held whole_errand request
-asks_whole asks = rw nothing_sent asks.asked
-
--- the query for it
-abbrev pub whole_query : {D : Type 0} → Laptop D → ServerNode D → Query
-whole_query laptop server = Objects laptop.place nothing_held (stamps_of server) new_client.held whole_errand
-
-module _ {D : Type 0} {medium : Medium D} {message : Message} {reply : Vec ℕ Global} {u v : Both D} {x y : List ℕ}
-    (ready : IsReady medium u) (asked : (scripts : List Declared) → Asked medium scripts message (Some reply) u v x y)
-    (replied : Replied message u v) (asks : IsErrand u.laptop.place nothing_held whole_errand message.request.items) where
-  nothing_there : (scripts : List Declared) (names : List (List ℕ)) (c : ℕ) (pair : Pair) → UpStands medium scripts names c v pair
-      → Follows nothing_held pair.server.durable × IsTree (nodes_of nothing_held)
-  nothing_there scripts names c pair here =
-      (follows_nothing pair.server.durable, nothing_tree)
-
-  -- the reply makes it of nothing
-  pub spells_whole : {t : Nodes} → SpellsCut (stamps_of u.server) nothing_held whole_errand reply.items t
-      → SpellsTree nothing_held reply.items t
-  spells_whole =
-      spells_tree u.laptop.place nothing_held new_client.held whole_errand asks (sym nodes_none) replied nothing_there ready asked
-
-  pub whole_came : BringsTree nothing_held reply.items × ((t : Nodes) → SpellsTree nothing_held reply.items t → IsWhole t)
-  whole_came =
-      let e = ((asked ready.scripts).is ready.names ready.c (whole_query u.laptop u.server) (asks, refl, sym nodes_none)).is in
-      let spells = spells_whole e.1 in (
-        record { tree = e.0; is = spells },
-        λ t of.
-            let same : t ≡ e.0 = same_tree (omega (arith, reply.ok, reply.small)) of spells in
-            let cut : e.0 ≡ nodes_of (stamps_of u.server) =
-            e.1.cut ∙ (λ i. snapshot (nodes_none i) (wanted.Below []) (nodes_of (stamps_of u.server)))
-            ∙ whole_comes (nodes_of (stamps_of u.server)) e.1.tree in
-            subst IsWhole (sym (same ∙ cut)) e.1.whole,
-      )
+    -- the reply makes it of nothing
+    pub whole_came : BringsTree nothing_held reply.items × ((t : Nodes) → SpellsTree nothing_held reply.items t → IsWhole t)
+    whole_came = (
+      record { tree = lent_whole.tree; is = lent_whole.spells },
+      λ t of.
+          let cut = lent_whole.cut in
+          let same : t ≡ nodes_of (stamps_of u.server) =
+          same_tree short of lent_whole.spells ∙ cut.cut
+          ∙ (λ i. snapshot (nodes_none i) (wanted.Below []) (nodes_of (stamps_of u.server)))
+          ∙ whole_comes (nodes_of (stamps_of u.server)) cut.tree in
+          subst IsWhole (sym same) cut.whole,
+    )

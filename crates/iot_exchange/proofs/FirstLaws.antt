@@ -28,21 +28,21 @@ use Rattle.iot_exchange.specs.Words.{submits, resolves, sync_head, sync_at, IfMa
 use Rattle.iot_exchange.specs.Words.{NotesAloud, told, Moved, IsSubmission, decision, decision_on, undecided_word, acts_in, label_in}
 use Rattle.iot_exchange.specs.Words.{head_reads, head_option, IsHeadPlan, head_plan, Plans, ResolutionStands, StageStands, ItemStands}
 use Rattle.iot_exchange.specs.Words.{IsVerdict, ItemIsNamed, Undecided, Submitted, Nodes, ACT_LIMIT, Code, after_acts, Item, Stage, HeadIs}
-use Rattle.iot_exchange.specs.Words.{IsByHand, Medium, Try, Asks, Then, Declared, reach, resolution_of, Pair, kept, OnConflict, line}
+use Rattle.iot_exchange.specs.Words.{IsByHand, Medium, Try, Declared, reach, resolution_of, Pair, kept, OnConflict, line}
 use Rattle.iot_exchange.specs.Words.{transaction_name, manual_line, resolve_line, Syncs, Verdict, Conflict, Halt, Over, Transaction}
 use Rattle.iot_exchange.specs.Words.{Message, waits_of, head_name, HandsIn, AsksAll, ItemsStand, state_in, LaptopStands, name_of}
 use Rattle.iot_exchange.specs.Words.{SpellsVerdict, told_change, SpellsTree, option_named, script_named, HasNamed, Laptop, ServerNode}
-use Rattle.iot_exchange.specs.Words.{nothing_held, Refresh}
-use Rattle.iot_exchange.proofs.ExchangeLaws.{Replied, asks_whole, spells_whole, whole_query}
+use Rattle.iot_exchange.specs.Words.{nothing_held, Refresh, stamps_of, Changes, EndsAlone, Notes, NotesAlone, KeepsDisk, KeepsTrails, SamePlace, UnlessNoMemory, disk_in}
+use Rattle.iot_exchange.proofs.ExchangeLaws.{asks_whole, lent_whole, whole_errand}
 use Rattle.iot_exchange.proofs.FollowingLaws.{nodes_none}
-use Rattle.iot_exchange.specs.Pairs.{Both, two, UpStands, KeepsDisks, Objects, Judgment, MissesAll, Does, AsksFor, Asked, IsReady}
+use Rattle.iot_exchange.specs.Pairs.{Both, two, UpStands, KeepsDisks, Objects, Judgment, MissesAll, Does, DoesFrom, AsksFor, Asked, Came}
 use Rattle.iot_exchange.specs.Pairs.{IsReadyWith}
 use Rattle.iot_exchange.specs.Saying.{synced_by, told_text, told_synced, resolver_said}
 use Rattle.iot_exchange.specs.declared.synced.Synced.{Synced as Sync}
 use Rattle.iot_exchange.specs.Queues.{First}
 use Rattle.iot_standing.specs.Scripts.{IsCodeOf}
-use Rattle.iot_exchange.proofs.DoesLaws.{DoesFrom, each_from, still}
-use Rattle.iot_exchange.proofs.StepsLaws.{from, asks_from, then_from, says, refuses}
+use Rattle.iot_exchange.proofs.DoesLaws.{by_client, each_from, keeps_more, notes, still}
+use Rattle.iot_exchange.proofs.StepsLaws.{asks_from, then_from, says_from, refuses_from}
 
 -- ---- stages
 
@@ -133,12 +133,8 @@ none_there held (m ∷ ms) none stand = absurd (subst (λ (items : List Item). I
 module _ {D : Type 0} {medium : Medium D} {scripts : List Declared} {names : List (List ℕ)} {c : ℕ} {old : Both D} {pair : Pair}
     (here : UpStands medium scripts names c old pair) where
   -- none waits
-  at_none : {A : Type 0} {next : List clients.Item → Try Pair A} {new : Both D} {x z : List ℕ} {result : Result A Halt}
-      → (state_in old.laptop).items ≡ [] → DoesFrom medium scripts names c (next []) pair new x z result
-      → DoesFrom medium scripts names c (Then (Asks (λ pair. (kept pair).items)) next) pair new x z result
-  at_none {next = next} {new} {x} {z} {result} none it =
-      asks_from (subst (λ (ms : List clients.Item). DoesFrom medium scripts names c (next ms) pair new x z result)
-      (sym (none_there _ (kept pair).items none here.client.is.state.items)) it)
+  none_here : (state_in old.laptop).items ≡ [] → [] ≡ (kept pair).items
+  none_here none = sym (none_there _ (kept pair).items none here.client.is.state.items)
 
   module _ {Is : Item → Type 0} {t : Transaction} (first : First Is old.laptop t) where
     -- it is the first of the machine's
@@ -165,13 +161,6 @@ module _ {D : Type 0} {medium : Medium D} {scripts : List Declared} {names : Lis
         (subst (IsPlanned head.first.option) (conflict_stage stage_there is) head.stands.planned)
 
     module _ {new : Both D} {x z : List ℕ} where
-      pub at_first : {A : Type 0} {next : List clients.Item → Try Pair A} {result : Result A Halt}
-          → DoesFrom medium scripts names c (next (head.first ∷ head.later)) pair new x z result
-          → DoesFrom medium scripts names c (Then (Asks (λ pair. (kept pair).items)) next) pair new x z result
-      at_first {next = next} {result} it =
-          asks_from (subst (λ (ms : List clients.Item). DoesFrom medium scripts names c (next ms) pair new x z result)
-          (sym head.split) it)
-
       -- it is submitted
       submits_at : {s : Stage} {ms : clients.Stage} {result : Result Synced Halt} → SameStage s ms → IsSubmittedIn s
           → DoesFrom medium scripts names c (Submits head.first) pair new x z result
@@ -183,20 +172,21 @@ module _ {D : Type 0} {medium : Medium D} {scripts : List Declared} {names : Lis
       pub submits_from : {result : Result Synced Halt} → IsSubmittedIn first.item.stage
           → DoesFrom medium scripts names c (submits head.first.option (submission_of head.first pair)) pair new x z result
           → DoesFrom medium scripts names c Syncs pair new x z result
-      submits_from is it = at_first {next = sync_head} (submits_at stage_there is (asks_from it))
+      submits_from is it = asks_from {next = sync_head} (sym head.split) (submits_at stage_there is (asks_from refl it))
 
       -- it is resolved
       resolves_at : {ms : clients.Stage} {p : Plan} {result : Result Synced Halt} → ms ≡ clients.Conflict
           → plan_of (kept pair).held head.first ≡ Some p
           → DoesFrom medium scripts names c (resolves (name_of t) (Some p)) pair new x z result
           → DoesFrom medium scripts names c (sync_at head.first ms) pair new x z result
-      resolves_at is planned it = rw is (asks_from (asks_from (rw (name_there here, planned) it)))
+      resolves_at is planned it = rw is (asks_from (sym (name_there here)) (asks_from (sym planned) it))
 
       pub resolves_from : {p : Plan} {result : Result Synced Halt} → first.item.stage ≡ kept_stages.Conflict
           → plan_of (kept pair).held head.first ≡ Some p
           → DoesFrom medium scripts names c (resolves (name_of t) (Some p)) pair new x z result
           → DoesFrom medium scripts names c Syncs pair new x z result
-      resolves_from is planned it = at_first {next = sync_head} (resolves_at (conflict_stage stage_there is) planned it)
+      resolves_from is planned it =
+          asks_from {next = sync_head} (sym head.split) (resolves_at (conflict_stage stage_there is) planned it)
 
       -- no message gets through
       misses_at : {s : Stage} {ms : clients.Stage} → SameStage s ms → (s ≡ kept_stages.Manual → ⊥)
@@ -205,36 +195,32 @@ module _ {D : Type 0} {medium : Medium D} {scripts : List Declared} {names : Lis
           → DoesFrom medium scripts names c (sync_at head.first ms) pair new x z (Ok Unanswered)
       misses_at conflict not_manual planned misses wrote =
           let p = planned refl in
-          resolves_at refl p.1 (then_from here (misses.none (Objects 0 nothing_held nothing_held new_client.held (Refresh (wanted.Below []))) x)
-          (says (λ pair here. wrote)))
+          resolves_at refl p.1
+          (then_from (misses.none (Objects 0 nothing_held nothing_held new_client.held (Refresh (wanted.Below []))) x) here
+          (λ after there. says_from wrote there))
       misses_at manual not_manual planned misses wrote = absurd (not_manual refl)
-      misses_at same not_manual planned misses wrote =
-          asks_from (then_from here (misses.none (Judgment (submission_of head.first pair)) x) (says (λ pair here. wrote)))
+      misses_at same not_manual planned misses wrote = asks_from refl
+          (then_from (misses.none (Judgment (submission_of head.first pair)) x) here (λ after there. says_from wrote there))
 
 -- ---- without the server
 
 module _ {D : Type 0} {medium : Medium D} {scripts : List Declared} {old : Both D} {x y : List ℕ} where
   pub syncs_none : (state_in old.laptop).items ≡ [] → KeepsDisks medium old old → y ≡ x ++ line (codes "nothing")
       → Does medium scripts Syncs old old x y (Ok Stays)
-  syncs_none none keeps wrote =
-      each_from keeps (λ names c pair here. at_none here {next = sync_head} none (from (says (λ pair here. wrote)) here))
+  syncs_none none keeps wrote = each_from keeps (λ names c pair here. asks_from {next = sync_head} (none_here here none) (says_from wrote here))
 
   -- it waits for a decision by hand
   pub syncs_by_hand : {t : Transaction} → First IsByHand old.laptop t → KeepsDisks medium old old → y ≡ x ++ manual_line (name_of t)
       → Does medium scripts Syncs old old x y (Ok Stays)
-  syncs_by_hand first keeps wrote =
-      each_from keeps (λ names c pair here.
-      at_first here first {next = sync_head}
+  syncs_by_hand first keeps wrote = each_from keeps (λ names c pair here. asks_from {next = sync_head} (sym (head here first).split)
       (rw (manual_stage (stage_there here first) first.is)
-      (from (says (λ pair there. wrote ∙ ap (λ (n : List ℕ). x ++ manual_line n) (sym (name_there here first there)))) here)))
+      (says_from (wrote ∙ ap (λ (n : List ℕ). x ++ manual_line n) (sym (name_there here first here))) here)))
 
   -- no message gets through
   pub syncs_away : {new : Both D} {t : Transaction} → First (λ item. IsByHand item → ⊥) old.laptop t → KeepsDisks medium old new
       → ((names : List (List ℕ)) (c : ℕ) → MissesAll medium scripts names c old new) → y ≡ x ++ line (codes "away")
       → Does medium scripts Syncs old new x y (Ok Unanswered)
-  syncs_away first keeps misses wrote =
-      each_from keeps (λ names c pair here.
-      at_first here first {next = sync_head}
+  syncs_away first keeps misses wrote = each_from keeps (λ names c pair here. asks_from {next = sync_head} (sym (head here first).split)
       (misses_at here first (stage_there here first) first.is (planned_there here first) (misses names c) wrote))
 
 -- ---- decisions by hand
@@ -247,19 +233,17 @@ module _ {D : Type 0} {medium : Medium D} {scripts : List Declared} {old : Both 
       → DoesFrom medium scripts names c (IfManual call) pair old x y (Err Over)
   undecided_by {u} [] same is wrote names c pair here =
       let nothing : u ≡ why.Nothing = cc in
-      at_none here {next = if_manual call} same
-      (from (refuses (λ pair here. wrote ∙ ap (λ (u : Undecided). x ++ line (undecided_word u)) nothing) (λ pair here. still here)) here)
+      asks_from {next = if_manual call} (none_here here same) (refuses_from (rw nothing at wrote) (still here))
   undecided_by (item ∷ items) same is wrote names c pair here =
       let first : First (λ _. Unit {0}) old.laptop (record { client = old.laptop.name; number = item.tid }) =
       record { item = item; rest = items; items = same; named = refl; is = tt } in
       let refused = refused_on old.laptop item (stage_there here first) is in
-      at_first here first {next = if_manual call}
-      (rw refused.1
-      (from (refuses (λ pair here. wrote ∙ ap (λ (u : Undecided). x ++ line (undecided_word u)) refused.0) (λ pair here. still here)) here))
+      asks_from {next = if_manual call} (sym (head here first).split)
+      (rw refused.1 (refuses_from (rw refused.0 at wrote) (still here)))
 
   pub undecided : {u : Undecided} → decision old.laptop (state_in old.laptop).items ≡ Err u → KeepsDisks medium old old
       → y ≡ x ++ line (undecided_word u) → Does medium scripts (IfManual call) old old x y (Err Over)
-  undecided is keeps wrote = each_from keeps (undecided_by (state_in old.laptop).items refl is wrote)
+  undecided is keeps wrote = record { disks = keeps; step = undecided_by (state_in old.laptop).items refl is wrote }
 
   -- it is decided of
   pub decides : {t : Transaction} {new : Both D} {result : Result (Unit {0}) Halt}
@@ -273,7 +257,7 @@ module _ {D : Type 0} {medium : Medium D} {scripts : List Declared} {old : Both 
       let first : First IsByHand old.laptop t = first_of head_is_it.0 head_is_it.1 in
       let mi = (head here first).first in
       let manual : is_manual mi.stage ≡ true = ap is_manual (manual_stage (stage_there here first) first.is) in
-      at_first here first {next = if_manual call}
+      asks_from {next = if_manual call} (sym (head here first).split)
       (rw manual (each names c mi (λ after there. name_there here first there) pair here)))
 
 -- no files are listed if none are kept
@@ -414,40 +398,46 @@ module _ {D : Type 0} {laptop : Laptop D} {t : Transaction} (it : Submitted) (fi
     {server : ServerNode D} where
   -- no reply came
   pub submits_away : {medium : Medium D} {scripts : List Declared} {mid : Both D} {x y z : List ℕ}
-      → Asked medium scripts (message_of it) None (two laptop server) mid x y → z ≡ y ++ line (codes "away")
-      → Does medium scripts Syncs (two laptop server) mid x z (Ok Unanswered)
-  submits_away asked wrote = each_from asked.disks (λ names c pair here.
-      submits_from here first first.is.submitted (then_from here
-      (asked.is names c (Judgment (submission_of (mi here first) pair)) (asks_judgment here first first.is)).is
-      (says (λ pair here. wrote))))
+      → Asked medium (message_of it) None (two laptop server) mid x y → KeepsDisks medium (two laptop server) mid
+      → z ≡ y ++ line (codes "away") → Does medium scripts Syncs (two laptop server) mid x z (Ok Unanswered)
+  submits_away {scripts = scripts} asked keeps wrote = each_from keeps (λ names c pair here. submits_from here first first.is.submitted (then_from
+      (asked.is scripts names c (Judgment (submission_of (mi here first) pair)) (asks_judgment here first first.is)).is here
+      (λ after there. says_from wrote there)))
 
-  -- a verdict came
-  pub verdict_came : {medium : Medium D} {mid : Both D} {x y : List ℕ} {reply : Vec ℕ Global} → IsReady medium (two laptop server)
-      → ((scripts : List Declared) → Asked medium scripts (message_of it) (Some reply) (two laptop server) mid x y)
-      → IsVerdict (head_reads (state_in laptop).items) reply.items
-  verdict_came {reply = reply} ready asked =
-      let here = ready.stands in
-      let e = ((asked ready.scripts).is ready.names ready.c (Judgment (submission_of (mi here first) ready.pair))
-      (asks_judgment here first first.is)).is in
-      record { told = e.0; is = says_it here first first.is reply.items e.0 e.1 }
+  module _ {medium : Medium D} {mid : Both D} {x y : List ℕ} {reply : Vec ℕ Global}
+      (came : Came medium (message_of it) reply (two laptop server) mid x y) where
+    -- a verdict came
+    pub verdict_came : IsVerdict (head_reads (state_in laptop).items) reply.items
+    verdict_came =
+        let ready = came.ready in
+        let here = ready.stands in
+        let e = (came.asked.is ready.scripts ready.names ready.c (Judgment (submission_of (mi here first) ready.pair))
+        (asks_judgment here first first.is)).is in
+        record { told = e.0; is = says_it here first first.is reply.items e.0 e.1 }
 
-  -- what the reply says of it becomes of it
-  pub submits_told : {medium : Medium D} {scripts : List Declared} {mid new : Both D} {x y z : List ℕ} {reply : Vec ℕ Global}
-      {result : Result Synced Halt}
-      → KeepsDisks medium (two laptop server) new → Asked medium scripts (message_of it) (Some reply) (two laptop server) mid x y
-      → ((verdict : Verdict) (option : labels.OnConflict) → SpellsVerdict (head_reads (state_in laptop).items) reply.items verdict
-      → head_option (state_in laptop).items ≡ Some option
-      → Does medium scripts (NotesAloud (told_change verdict option) (told_text (name_of t) verdict option) (told_synced verdict option))
-      mid new y z result)
-      → Does medium scripts Syncs (two laptop server) new x z result
-  submits_told {reply = reply} keeps asked each = each_from keeps (λ names c pair here.
-      let m = mi here first in
-      let e = (asked.is names c (Judgment (submission_of m pair)) (asks_judgment here first first.is)).is in
-      let has : head_option (state_in laptop).items ≡ Some (option_named m.option) =
-      ap head_option first.items ∙ ap (λ (l : labels.OnConflict). Some l) (head here first).stands.option in
-      submits_from here first first.is.submitted (then_from here e.2
-      ((told_by e.0 m.option (name_there here first here)
-      (each e.0 (option_named m.option) (says_it here first first.is reply.items e.0 e.1) has)).step names c)))
+    -- what the reply says of it becomes of it
+    pub submits_told : {scripts : List Declared} {new : Laptop D} {z w : List ℕ} {inner : Result (Unit {0}) Halt} {result : Result Synced Halt}
+        → KeepsDisks medium (two laptop server) mid
+        → ((verdict : Verdict) (option : labels.OnConflict) → SpellsVerdict (head_reads (state_in laptop).items) reply.items verdict
+        → head_option (state_in laptop).items ≡ Some option → Changes medium (told_change verdict option) mid.laptop new y z inner)
+        → SamePlace mid.laptop new → UnlessNoMemory inner (KeepsTrails mid.laptop new)
+        → KeepsDisk medium (disk_in mid.laptop) (disk_in new)
+        → ((verdict : Verdict) (option : labels.OnConflict) → SpellsVerdict (head_reads (state_in laptop).items) reply.items verdict
+        → head_option (state_in laptop).items ≡ Some option
+        → Does medium scripts (Notes (told_change verdict option)) mid (two new mid.server) y z inner → Does medium scripts
+        (NotesAloud (told_change verdict option) (told_text (name_of t) verdict option) (told_synced verdict option))
+        mid (two new mid.server) y w result)
+        → Does medium scripts Syncs (two laptop server) (two new mid.server) x w result
+    submits_told {scripts} keeps does place trails more after = each_from (keeps_more keeps more) (λ names c pair here.
+        let m = mi here first in
+        let e = (came.asked.is scripts names c (Judgment (submission_of m pair)) (asks_judgment here first first.is)).is in
+        let spells = says_it here first first.is reply.items e.0 e.1 in
+        let has : head_option (state_in laptop).items ≡ Some (option_named m.option) =
+        ap head_option first.items ∙ ap (λ (l : labels.OnConflict). Some l) (head here first).stands.option in
+        submits_from here first first.is.submitted (then_from e.2 here
+        ((told_by e.0 m.option (name_there here first here) (after e.0 (option_named m.option) spells has
+        (by_client (notes (told_change e.0 (option_named m.option))) keeps place trails (does e.0 (option_named m.option) spells has scripts)
+        more))).step names c)))
 
 -- ---- the whole tree
 
@@ -523,12 +513,13 @@ module _ {D : Type 0} {laptop : Laptop D} {t : Transaction} (request : Vec ℕ G
     (first : First (λ item. AsksAll laptop item request.items) laptop t) {server : ServerNode D} where
   -- no reply came
   pub resolves_away : {medium : Medium D} {scripts : List Declared} {mid : Both D} {x y z : List ℕ}
-      → Asked medium scripts (asking request) None (two laptop server) mid x y → z ≡ y ++ line (codes "away")
-      → Does medium scripts Syncs (two laptop server) mid x z (Ok Unanswered)
-  resolves_away asked wrote = each_from asked.disks (λ names c pair here.
+      → Asked medium (asking request) None (two laptop server) mid x y → KeepsDisks medium (two laptop server) mid
+      → z ≡ y ++ line (codes "away") → Does medium scripts Syncs (two laptop server) mid x z (Ok Unanswered)
+  resolves_away {scripts = scripts} asked keeps wrote = each_from keeps (λ names c pair here.
       let p = planned_there here first first.is.conflict in
-      resolves_from here first first.is.conflict p.1 (then_from here
-      (asked.is names c (whole_query laptop server) (asks_whole first.is, refl, sym nodes_none)).is (says (λ pair here. wrote))))
+      resolves_from here first first.is.conflict p.1 (then_from
+      (asked.is scripts names c (Objects laptop.place nothing_held (stamps_of server) new_client.held whole_errand)
+      (asks_whole first.is, refl, sym nodes_none)).is here (λ after there. says_from wrote there)))
 
   module _ (plan : plans.Plan) (is : IsHeadPlan (state_in laptop).items plan) where
     -- its script is declared
@@ -537,20 +528,27 @@ module _ {D : Type 0} {laptop : Laptop D} {t : Transaction} (request : Vec ℕ G
     declared_for ready = rw (its_plan first (plan_is first is) ready.pair.client ready.stands.client.is).named refl
 
     -- it is resolved on that by what is planned for it
-    pub resolves_told : {medium : Medium D} {scripts : List Declared} {mid new : Both D} {x y z : List ℕ} {reply : Vec ℕ Global}
-        {code : Code} {result : Result Synced Halt}
-        → IsCodeOf plan.script scripts code → KeepsDisks medium (two laptop server) new → IsReady medium (two laptop server)
-        → ((scripts : List Declared) → Asked medium scripts (asking request) (Some reply) (two laptop server) mid x y)
-        → Replied (asking request) (two laptop server) mid
-        → ((p : Plan) (u : Nodes) → SpellsTree nothing_held reply.items u → Plans medium scripts laptop p → p.script.code ≡ code
-        → Does medium scripts
-        (NotesAloud (reach (clients.Resolved (resolution_of p u))) (resolve_line (name_of t) (resolver_said plan)) Moved)
-        mid new y z result)
-        → Does medium scripts Syncs (two laptop server) new x z result
-    resolves_told {medium} {scripts} coded keeps ready asked replied each = each_from keeps (λ names c pair here.
+    pub resolves_told : {medium : Medium D} {scripts : List Declared} {mid : Both D} {new : Laptop D} {x y z w : List ℕ}
+        {reply : Vec ℕ Global} {code : Code} {inner : Result (Unit {0}) Halt} {result : Result Synced Halt}
+        → IsCodeOf plan.script scripts code → Came medium (asking request) reply (two laptop server) mid x y
+        → KeepsDisks medium (two laptop server) mid
+        → ((t : Nodes) → SpellsTree nothing_held reply.items t → (scripts : List Declared) (p : Plan) → Plans medium scripts mid.laptop p
+        → p.script.code ≡ code → EndsAlone medium scripts (NotesAlone (reach (clients.Resolved (resolution_of p t)))) mid.laptop new y z inner)
+        → SamePlace mid.laptop new → UnlessNoMemory inner (KeepsTrails mid.laptop new)
+        → KeepsDisk medium (disk_in mid.laptop) (disk_in new)
+        → ((p : Plan) (u : Nodes)
+        → Does medium scripts (Notes (reach (clients.Resolved (resolution_of p u)))) mid (two new mid.server) y z inner
+        → Does medium scripts (NotesAloud (reach (clients.Resolved (resolution_of p u))) (resolve_line (name_of t) (resolver_said plan)) Moved)
+        mid (two new mid.server) y w result)
+        → Does medium scripts Syncs (two laptop server) (two new mid.server) x w result
+    resolves_told {medium} {scripts} coded came keeps does place trails more after =
+        each_from (keeps_more keeps more) (λ names c pair here.
         let plans = plans_it {medium = medium} {scripts = scripts} first (plan_is first is) coded.is in
-        let e = ((asked scripts).is names c (whole_query laptop server) (asks_whole first.is, refl, sym nodes_none)).is in
+        let p : Plan = plan_as (after_acts (state_in laptop).held first.item.acts) plan coded.script in
+        let whole = lent_whole came (asks_whole first.is) in
         resolves_from here first first.is.conflict
         (sym (ap (head_plan (kept pair).held) (head here first).split) ∙ plans pair.client here.client.is)
-        (then_from here e.2
-        ((each _ e.0 (spells_whole ready asked replied (asks_whole first.is) e.1) plans coded.has).step names c)))
+        (then_from (whole.steps scripts names c) here
+        ((after p whole.tree (by_client (notes (reach (clients.Resolved (resolution_of p whole.tree)))) keeps place trails
+        (does whole.tree whole.spells scripts p (subst (λ (l : Laptop D). Plans medium scripts l p) (sym came.same) plans) coded.has)
+        more)).step names c)))

@@ -1,5 +1,5 @@
 -- Calls that are put together in another order do the same.
-use Rattle.std.proofs.Common.{◌≡◌, List, [], ◌++◌, refl, sym, ap, subst, ◌∙◌, append_assoc}
+use Rattle.std.proofs.Common.{◌≡◌, List, [], ◌++◌, refl, ap, ◌∙◌, append_assoc}
 use Rattle.iot_exchange.specs.Words.{ℕ, Call, Asks, Then}
 
 module _ {S : Type 0} where
@@ -39,22 +39,13 @@ module _ {S : Type 0} where
   }
 
   -- a look in front of a call
-  pub looks : {A B : Type 0} {ask : S → A} {next : A → Call S B} {m n : S} {text : List ℕ} {b : B}
-      → next (ask m) m text b n → Then (Asks ask) next m text b n
-  looks {ask = ask} {m = m} {text = text} it = record {
-    mid = m;
-    front = [];
-    rest = text;
-    answer = ask m;
-    first = (refl, refl, refl);
-    second = it;
-    whole = refl;
-  }
+  pub looks : {A B : Type 0} {ask : S → A} {next : A → Call S B} {m n : S} {text : List ℕ} {b : B} {a : A} → a ≡ ask m
+      → next a m text b n → Then (Asks ask) next m text b n
+  looks {m = m} {text = text} is it =
+      record { mid = m; front = []; rest = text; answer = _; first = (refl, is, refl); second = it; whole = refl }
 
-  pub looked : {A B : Type 0} {ask : S → A} {next : A → Call S B} {m n : S} {text : List ℕ} {b : B}
-      → Then (Asks ask) next m text b n → next (ask m) m text b n
-  looked {ask = ask} {next} {m} {n} {text} {b} it =
+  pub looked : {A B : Type 0} {ask : S → A} {next : A → Call S B} {m n : S} {text : List ℕ} {b : B} {a : A} → ask m ≡ a
+      → Then (Asks ask) next m text b n → next a m text b n
+  looked {text = text} is it =
       let wrote : text ≡ it.rest = it.whole ∙ ap (λ (l : List ℕ). l ++ it.rest) it.first.0 in
-      subst (λ (l : List ℕ). next (ask m) m l b n) (sym wrote)
-      (subst (λ (mid : S). next (ask m) mid it.rest b n) it.first.2
-      (subst (λ (a : _). next a it.mid it.rest b n) it.first.1 it.second))
+      rw (it.first.1, is, it.first.2, ← wrote) at it.second

@@ -34,11 +34,7 @@ module _ (ws : List DeclaredScript) (name : List ℕ) (o : Option (Bor DeclaredS
   -- the one that was found has the code
   pub code_found : {script : Bor DeclaredScript} {code : Code} → o ≡ Some script → code ≡ script.now.script
       → IsCodeOf name (map script_of ws) code
-  code_found is same = record {
-    script = _;
-    is = rw is at found_is;
-    has = sym same;
-  }
+  code_found is same = record { script = _; is = rw is at found_is; has = sym same }
 
   -- one is found if it is declared
   pub none_found : o ≡ None → IsSome (script_named name (map script_of ws)) → ⊥

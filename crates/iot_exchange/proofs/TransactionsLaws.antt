@@ -1,12 +1,12 @@
 -- Transactions begin, are stepped and end as those of the machine, and what one sees of them is what the machine says.
 use Rattle.std.proofs.Common.{◌≡◌, ℕ, ◌-◌, Bool, List, [], ◌∷◌, ◌++◌, length, map, Option, Some, None, slice_get, Bor, Result, Ok, refl}
-use Rattle.std.proofs.Common.{sym, ap, subst, ◌∙◌, true, false, not, codes, ◌+◌, ◌<◌, get_or, take}
+use Rattle.std.proofs.Common.{sym, ap, subst, ◌∙◌, true, false, not, codes}
 use Rattle.std.specs.Prelude.{leb, option_map, if◌then◌else◌}
 use Rattle.std.proofs.lemmas.Option.{same_Some, slice_get_past, slice_get_read}
 use Rattle.std.specs.Option.{option_copied}
 use Rattle.std.specs.Slice.{IsItemAt}
 use Rattle.std.proofs.lemmas.Bool.{leb-true, leb-false}
-use Rattle.std.proofs.lemmas.List.{append-nil, map_more}
+use Rattle.std.proofs.lemmas.List.{append-nil}
 use Rattle.iot_kept.specs.States.{Transaction, numbered}
 use Rattle.iot_kept.specs.declared.running.Running.{Running}
 use Rattle.iot_judging.proofs.NextLaws.{is_at_end, is_at_limit, is_next}
@@ -20,7 +20,7 @@ use Rattle.iot_exchange.specs.Words.{so_far, next_step, next_by, next_away, says
 use Rattle.iot_exchange.specs.Words.{stage_kept, items_kept, RunStand, live_in}
 use Rattle.iot_exchange.specs.Words.{Nodes, ACT_LIMIT, after_acts, Item, Stage, Medium, Declared, ReadsOf}
 use Rattle.iot_exchange.specs.Words.{queue_kept, queue_text, transaction_name, begin_line, step_line, fetch_line}
-use Rattle.iot_exchange.specs.Words.{Client, kept, fetched, Halt, ItemsStand, LaptopStands, state_in, Laptop}
+use Rattle.iot_exchange.specs.Words.{Client, fetched, Halt, ItemsStand, LaptopStands, state_in, Laptop}
 use Rattle.iot_exchange.specs.Pairs.{Both, Does, KeepsDisks}
 use Rattle.iot_exchange.specs.Saying.{line_of, place_said}
 use Rattle.iot_exchange.proofs.DoesLaws.{asks_then, answers, tells}
@@ -68,12 +68,6 @@ lines_are (r ∷ rs) (live ∷ lives) m (it ∷ ms) classes stand =
     (λ i. record { tid = stand.0.number i; script = stand.0.name i; first = class i; acts = stand.0.acts i } ∷ rest i)
 lines_are rs lives m ms classes stand = absurd stand
 
--- one line more
-pub line_more : (rs : List Running) (i : ℕ) (it : Running) (old new : List RunLine) (line : RunLine) → i < length rs → it ≡ get_or rs i it
-    → line ≡ line_of it → old ≡ map line_of (take i rs) → new ≡ old ++ line ∷ [] → new ≡ map line_of (take (i + 1) rs)
-line_more rs i it old new line within is same so_far pushed =
-    pushed ∙ (λ j. so_far j ++ (same ∙ ap line_of is) j ∷ []) ∙ sym (map_more line_of rs i it within)
-
 -- an element that is lent is the one at its place
 lent_element : {A : Type 0} (xs : List A) (place : ℕ) (o : Option (Bor A)) → IsItemAt xs place o
     → option_copied o ≡ slice_get xs place
@@ -86,14 +80,10 @@ queue_is {laptop = laptop} {m} here =
     queue_are (state_in laptop).items (state_in laptop).held m.node.durable here.state.held here.state.items
 
 -- all of them are said
-abbrev pub SaysQueue : {D : Type 0} → Medium D → Laptop D → (before after : List ℕ) → Type 0
-SaysQueue medium laptop before after =
-    (scripts : List Declared) (m : Client) → LaptopStands medium scripts laptop m
-    → after ≡ before ++ queue_text m.name (queue_kept m.node.durable) (running_in m)
-
 pub says_queue : {D : Type 0} (medium : Medium D) (laptop : Laptop D) (x : List ℕ) {y : List ℕ} (rs : List Running) (lines : List RunLine)
     → transactions rs ≡ (state_in laptop).running → classes_of rs ≡ map (λ live. live.first) (live_in laptop) → lines ≡ map line_of rs
-    → y ≡ x ++ queue_text laptop.name (state_in laptop).items lines → SaysQueue medium laptop x y
+    → y ≡ x ++ queue_text laptop.name (state_in laptop).items lines → (scripts : List Declared) (m : Client)
+    → LaptopStands medium scripts laptop m → y ≡ x ++ queue_text m.name (queue_kept m.node.durable) (running_in m)
 says_queue medium laptop x rs lines run classes are wrote scripts m here =
     let queue = queue_is here in
     let stand = subst (λ (r : List Transaction). RunStand r (live_in laptop) m.first m.node.durable.running) (sym run) here.state.running in

@@ -1,9 +1,8 @@
 -- A client with the server, as the code has them: which pair of the machine they stand for, and how they change.
 use Rattle.std.specs.declared.alloc.Global.{Global}
 use Rattle.iot_tree.specs.declared.labels.OnConflict.{OnConflict}
-use Rattle.iot_node.specs.Steps.{Ends}
-use Rattle.std.specs.Prelude.{◌+◌, ◌≡◌, ◌≤◌}
-use Rattle.iot_exchange.specs.Words.{Option, Vec, ℕ, List, None, Some, Result, slice_get, Medium, Nodes, Want, IsRefresh, Call, Try, Errand, IsErrand}
+use Rattle.std.specs.Prelude.{◌+◌, ◌++◌, ◌≡◌, ◌≤◌}
+use Rattle.iot_exchange.specs.Words.{Option, Vec, ℕ, List, None, Some, Ok, Err, Over, NoMemory, Result, slice_get, Medium, Nodes, Want, IsRefresh, Call, Try, Errand, IsErrand}
 use Rattle.iot_exchange.specs.Words.{Declared, Client, Commit, Pair, Node, Submission, Verdict, Lends, Judges, Exchange, KeepsDisk, StepsTo}
 use Rattle.iot_exchange.specs.Words.{Halt, SpellsVerdict, SpellsCut, KeepsRecords, ServerStands, IsHanded, IsNamedIn, disk_of, Message}
 use Rattle.iot_exchange.specs.Words.{ServerNode, Stands, LaptopStands, ClientStands, disk_in, Laptop, Stamps, nodes_of, is_up, stamps_in}
@@ -54,6 +53,12 @@ pub record KeepsDisks {D : Type 0} (medium : Medium D) (old new : Both D) : Type
   pub beside : KeepsBeside medium old.server new.server
   pub records : KeepsRecords (on_both medium) (disk_of old.server) (disk_of new.server)
 
+-- the server has
+pub record KeepsServed {D : Type 0} (medium : Medium D) (old new : ServerNode D) : Type 0 where
+  pub server : KeepsDisk (on_both medium) (disk_of old) (disk_of new)
+  pub beside : KeepsBeside medium old new
+  pub records : KeepsRecords (on_both medium) (disk_of old) (disk_of new)
+
 -- they stand for some pair, among some scripts; so the client is alive, and one of at most eight
 pub record IsReady {D : Type 0} (medium : Medium D) (w : Both D) : Type 0 where
   pub scripts : List Declared
@@ -88,12 +93,36 @@ pub record IsStandingWith {D : Type 0} (medium : Medium D) (scripts : List Decla
 
 -- ---- what they do
 
--- Among these scripts, whatever the names of the clients and the place of this one, each pair for which they stand does this: the client
--- is alive then, or the event is over, and it may be down. If memory runs out, nothing is said but of the disks.
+-- from this machine the call says so much, answers this, and leaves a machine for which the world stands
+pub record Steps {W M A : Type 0} (after : W → M → Type 0) (call : Call M A) (m : M) (v : W) (x y : List ℕ) (a : A) : Type 0 where
+  pub text : List ℕ
+  pub next : M
+  pub wrote : y ≡ x ++ text
+  pub step : call m text a next
+  pub stands : after v next
+
+-- it goes on, and the world stands in the first way; or the event is over, and it stands in the second way
+abbrev pub EndsFrom : {W M A : Type 0} → (up down : W → M → Type 0) → Try M A → M → W → (x y : List ℕ) → Result A Halt → Type 0
+EndsFrom up down call m v x y (Ok a) = Steps up call m v x y (Some a)
+EndsFrom up down call m v x y (Err NoMemory) = Unit {0}
+EndsFrom up down call m v x y (Err Over) = Steps down call m v x y None
+
+pub record From {W M A : Type 0} (up down : W → M → Type 0) (call : Try M A) (m : M) (v : W) (x y : List ℕ) (result : Result A Halt) : Type
+    0 where
+  pub is : EndsFrom up down call m v x y result
+
+-- so it is from this pair: the client is alive then, or the event is over, and it may be down
+abbrev pub DoesFrom : {D A : Type 0} → Medium D → List Declared → (names : List (List ℕ)) → (c : ℕ) → Try Pair A → Pair → Both D
+    → (x y : List ℕ) → Result A Halt → Type 0
+DoesFrom medium scripts names c call pair v x y result =
+    From (UpStands medium scripts names c) (AnyStands medium scripts names c) call pair v x y result
+
+-- Among these scripts, whatever the names of the clients and the place of this one, each pair for which they stand does this. If memory
+-- runs out, nothing is said but of the disks.
 pub record Does {D A : Type 0} (medium : Medium D) (scripts : List Declared) (call : Try Pair A) (old new : Both D)
     (x y : List ℕ) (result : Result A Halt) : Type 0 where
-  pub step : (names : List (List ℕ)) (c : ℕ)
-      → Ends (UpStands medium scripts names c) (AnyStands medium scripts names c) call old new x y result
+  pub step : (names : List (List ℕ)) (c : ℕ) (pair : Pair) → UpStands medium scripts names c old pair
+      → DoesFrom medium scripts names c call pair new x y result
   pub disks : KeepsDisks medium old new
 
 -- ---- exchanges
@@ -144,21 +173,19 @@ pub record Exchanges {W A : Type 0} (up : W → Pair → Type 0) (Spelled : List
     (reply : Option (Vec ℕ Global)) (old new : W) (x y : List ℕ) : Type 0 where
   pub is : IfReplied Spelled reply (λ a. StepsTo up up call old new x y a)
 
--- the message was sent, and this is the reply, if one came: whatever it asks, that was exchanged; and both have their disks
-pub record Asked {D : Type 0} (medium : Medium D) (scripts : List Declared) (message : Message) (reply : Option (Vec ℕ Global))
-    (old new : Both D) (x y : List ℕ) : Type 0 where
-  pub is : (names : List (List ℕ)) (c : ℕ) (query : Query) → AsksFor names message old.server query
+-- the message was sent, and this is the reply, if one came: whatever it asks, that was exchanged
+pub record Asked {D : Type 0} (medium : Medium D) (message : Message) (reply : Option (Vec ℕ Global)) (old new : Both D) (x y : List ℕ)
+    : Type 0 where
+  pub is : (scripts : List Declared) (names : List (List ℕ)) (c : ℕ) (query : Query) → AsksFor names message old.server query
       → Exchanges (UpStands medium scripts names c) (Spells query) (Exchange (request_of query)) reply old new x y
-  pub disks : KeepsDisks medium old new
 
 -- the client asks with this request for what it knows, and for something that it wants
 pub record IsAsked {D : Type 0} (laptop : Laptop D) (request : List ℕ) : Type 0 where
   pub want : Want
   pub is : IsRefresh laptop.place (stamps_in laptop) want request
 
--- the server is alive before and after, and its tree has the stamps that it had
+-- the server is alive, and its tree has the stamps that it had
 pub record StaysUp {D : Type 0} (old new : ServerNode D) : Type 0 where
-  pub was_up : is_up old ≡ true
   pub up : is_up new ≡ true
   pub stamps : stamps_of new ≡ stamps_of old
 
@@ -167,6 +194,18 @@ abbrev pub LendsIfReplied : {D : Type 0} → Message → Option (Vec ℕ Global)
 LendsIfReplied message None old new = Unit {0}
 LendsIfReplied message (Some reply) old new =
     (client : ℕ) (held : Stamps) (errand : Errand) → IsErrand client held errand message.request.items → StaysUp old new
+
+-- a reply came to the message, and the client is as it was
+pub record Came {D : Type 0} (medium : Medium D) (message : Message) (reply : Vec ℕ Global) (old new : Both D) (x y : List ℕ) : Type 0 where
+  pub ready : IsReady medium old
+  pub asked : Asked medium message (Some reply) old new x y
+  pub same : new.laptop ≡ old.laptop
+  pub stands : Stands medium new.laptop
+  pub lends : LendsIfReplied message (Some reply) old.server new.server
+
+abbrev pub Replied : {D : Type 0} → Medium D → Message → Option (Vec ℕ Global) → (old new : Both D) → (x y : List ℕ) → Type 0
+Replied medium message None old new x y = Asked medium message None old new x y
+Replied medium message (Some reply) old new x y = Came medium message reply old new x y
 
 -- whatever is asked, no reply comes
 pub record MissesAll {D : Type 0} (medium : Medium D) (scripts : List Declared) (names : List (List ℕ)) (c : ℕ) (old new : Both D) : Type

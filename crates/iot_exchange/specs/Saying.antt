@@ -5,7 +5,7 @@ use Rattle.iot_machine.specs.Transactions as machine
 use Rattle.std.specs.Prelude.{◌++◌, length, if◌then◌else◌}
 use Rattle.iot_inspect.specs.declared.waiting.RunLine.{RunLine}
 use Rattle.iot_kept.specs.declared.running.Running.{Running}
-use Rattle.iot_exchange.specs.Words.{codes, Ok, Err, Reexec, Resolver, Abort, Manual, abort_line, ℕ, Bool, true, false, List, [], leb}
+use Rattle.iot_exchange.specs.Words.{codes, Ok, Err, Abort, Manual, abort_line, ℕ, Bool, true, false, List, [], leb}
 use Rattle.iot_exchange.specs.Words.{Result, ACT_LIMIT, Verdict, Settled, Conflict, settled_line, conflict_line, manual_line, Halt}
 use Rattle.iot_exchange.specs.declared.synced.Synced.{Synced}
 use Rattle.iot_exchange.specs.declared.synced.Synced.TheVariants.{Moved, Stays, Unanswered}
@@ -36,14 +36,10 @@ resolver_said plan = if plan.keeps then plan.script else codes "reexec"
 -- what a client is told of a transaction, as it is said, and how the sync went
 abbrev pub told_text : (name : List ℕ) → Verdict → OnConflict → List ℕ
 told_text name (Settled number) option = settled_line name number
-told_text name (Conflict read question) Reexec = conflict_line name read question
-told_text name (Conflict read question) (Resolver script) = conflict_line name read question
 told_text name (Conflict read question) Abort = conflict_line name read question ++ abort_line name
 told_text name (Conflict read question) Manual = conflict_line name read question ++ manual_line name
+told_text name (Conflict read question) option = conflict_line name read question
 
 abbrev pub told_synced : Verdict → OnConflict → machine.Synced
-told_synced (Settled number) option = machine.Moved
-told_synced (Conflict read question) Reexec = machine.Moved
-told_synced (Conflict read question) (Resolver script) = machine.Moved
-told_synced (Conflict read question) Abort = machine.Moved
 told_synced (Conflict read question) Manual = machine.Stays
+told_synced verdict option = machine.Moved

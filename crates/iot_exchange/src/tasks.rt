@@ -26,6 +26,7 @@ use std::alloc::Global;
 /// # Errors
 ///
 /// Only if memory runs out.
+#[tactic(auto, using(crate::proofs::DoesLaws::ready_there))]
 pub fn perform<D: Disk>(
     laptop: &mut Laptop<D>,
     server: &mut ServerNode<D>,

@@ -1,7 +1,7 @@
 //! The lines of a client's transactions.
 ghost use Rattle.std.specs.Prelude.{◌≡◌, ◌++◌, ◌∷◌, codes, decimal};
 ghost use Rattle.iot_exchange.specs.Words.{pending_line, OnOk, name_of, verdict_of, hoard_line, refresh_line, walk_line, begin_line};
-ghost use Rattle.iot_exchange.specs.Words.{fetch_line, step_line, line, again_line, question_text, resolve_line, repair_line};
+ghost use Rattle.iot_exchange.specs.Words.{fetch_line, step_line, line, question_text, resolve_line, repair_line};
 ghost use Rattle.iot_exchange.specs.Saying.{place_said, resolver_said, told_text};
 
 use iot_hoard::size_of;
@@ -141,20 +141,8 @@ pub(crate) fn say_told(
     }
 }
 
-/// `again TID read I QUESTION`
-pub(crate) fn say_again(
-    transaction: &Transaction,
-    read: u64,
-    question: &Question,
-    out: &mut Text,
-) -> Result<(), NoMemory>
-    ensures { OnOk result (out.new ≡ out.old ++ again_line (name_of transaction.now) read question.now) }
-{
-    say_read(b"again ", transaction, read, question, out)
-}
-
-/// This word of a transaction, and which read of it has another answer now.
-fn say_read(
+/// This word of a transaction, and which read of it has another answer now, as `again TID read I QUESTION`.
+pub(crate) fn say_read(
     word: &[u8],
     transaction: &Transaction,
     read: u64,

@@ -14,7 +14,7 @@ use crate::errand::Errand;
 use crate::objects::{bring, fetch};
 use crate::queues::sync;
 use crate::synced::Synced;
-use crate::texts::{say_again, say_begin, say_fetch, say_of, say_pending, say_step};
+use crate::texts::{say_begin, say_fetch, say_of, say_pending, say_read, say_step};
 use iot_client::Step;
 use iot_disk::Disk;
 use iot_laptop::{Certified, Gone, Laptop};
@@ -52,6 +52,7 @@ pub(crate) fn begin_aloud<D: Disk>(
 }
 
 /// Begins the client's next transaction, unless as many run as may, and gives its number. It is first class if a refresh comes.
+#[tactic(auto, using(crate::proofs::ExchangeLaws::has_room, crate::proofs::ExchangeLaws::no_items))]
 pub(crate) fn begin<D: Disk>(
     laptop: &mut Laptop<D>,
     server: &mut ServerNode<D>,
@@ -77,6 +78,7 @@ pub(crate) fn begin<D: Disk>(
 }
 
 /// Begins the client's next transaction, first class or not, and gives its number. Fewer run than may.
+#[tactic(auto, using(crate::proofs::DoesLaws::laptop_keeps))]
 fn start<D: Disk>(
     laptop: &mut Laptop<D>,
     alloc: Global,
@@ -128,6 +130,7 @@ pub(crate) fn step_aloud<D: Disk>(
 }
 
 /// Makes at most so many single steps of the transaction with this number. What was fetched is said if they are loud.
+#[tactic(auto, using(crate::proofs::DoesLaws::none_yet))]
 pub(crate) fn steps<D: Disk>(
     laptop: &mut Laptop<D>,
     server: &mut ServerNode<D>,
@@ -163,9 +166,9 @@ fn step<D: Disk>(
     ensures { (scripts : List Declared) → Does D.medium scripts (Steps number loud)
         (two laptop.old server.old) (two laptop.new server.new) out.old out.new result }
 {
-    if laptop.run(number).is_none() {
+    let Some(_running) = laptop.run(number) else {
         return Ok(false);
-    }
+    };
     match laptop.step(alloc, number, out)? {
         Step::Acted { .. } => Ok(true),
         Step::Fetch { request, path } => {
@@ -208,13 +211,14 @@ pub(crate) fn end<D: Disk>(
     match laptop.end(alloc, number, out)? {
         Certified::Joined(gone) => join(laptop, server, alloc, scripts, &gone, out),
         Certified::Again { read, question } => {
-            say_again(&laptop.transaction(number), read, &question, out)?;
+            say_read(b"again ", &laptop.transaction(number), read, &question, out)?;
             Ok(())
         }
     }
 }
 
 /// Says that a transaction has ended, and waits. One of first class is synced at once.
+#[tactic(auto, using(crate::proofs::DoesLaws::no_memory))]
 fn join<D: Disk>(
     laptop: &mut Laptop<D>,
     server: &mut ServerNode<D>,

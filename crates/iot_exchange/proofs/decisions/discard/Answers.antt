@@ -1,8 +1,8 @@
 use Rattle.std.proofs.Common.{◌++◌, List, ℕ, sym, ap, ◌∙◌}
 use Rattle.iot_exchange.specs.Words.{leave, discard_line, line}
-use Rattle.iot_exchange.proofs.DoesLaws.{by_client, notes}
+use Rattle.iot_exchange.proofs.DoesLaws.{by_client, goes_from, hands_on, notes}
 use Rattle.iot_exchange.proofs.FirstLaws.{decided, undecided, decides}
-use Rattle.iot_exchange.proofs.StepsLaws as steps
+use Rattle.iot_exchange.proofs.StepsLaws.{says_from}
 use Rattle.iot_exchange.proofs.decisions.discard.Goals as goal
 
 pub discard-requires-clause-manual : goal.discard-requires-clause-manual
@@ -13,15 +13,15 @@ returns-in_err-discard-in-Ok g c server ready scripts =
     let noted = by_client (notes leave) ready.keeps c.discard.ensures.place c.discard.ensures.trails (c.discard.ensures.does scripts)
     c.discard.ensures.disk in
     decides (sym c.decision.ensures ∙ c.in-Ok.is) noted.disks (λ names at mi named pair here.
-    steps.from (steps.hands_on c.in_err-discard-in-Ok.was c.from_residual.ensures.1 (noted.step names at)) here)
+    (hands_on c.in_err-discard-in-Ok.was c.from_residual.ensures.1 noted).step _ _ _ here)
 
 pub returns-in_ok-say_of-in-Ok : goal.returns-in_ok-say_of-in-Ok
 returns-in_ok-say_of-in-Ok g c server ready scripts =
     let noted = by_client (notes leave) ready.keeps c.discard.ensures.place c.discard.ensures.trails (c.discard.ensures.does scripts)
     c.discard.ensures.disk in
     decides (sym c.decision.ensures ∙ c.in-Ok.is) noted.disks (λ names at mi named pair here.
-    steps.from (steps.goes_then c.in_ok-discard-in-Ok.was (noted.step names at) (steps.says (λ after there.
-    c.in_ok-say_of-in-Ok.ensures ∙ ap (λ (n : List ℕ). c.discard.new.out ++ discard_line n) (sym (named after there))))) here)
+    goes_from c.in_ok-discard-in-Ok.was noted here (λ after there. says_from (c.in_ok-say_of-in-Ok.ensures
+    ∙ ap (λ (n : List ℕ). c.discard.new.out ++ discard_line n) (sym (named after there))) there))
 
 pub returns-in_ok-say-in-Err : goal.returns-in_ok-say-in-Err
 returns-in_ok-say-in-Err g c server ready scripts = undecided (sym c.decision.ensures ∙ c.in-Err.is) ready.keeps

@@ -1,8 +1,8 @@
 use Rattle.std.proofs.Common.{◌++◌, List, ℕ, sym, ap, ◌∙◌}
 use Rattle.iot_exchange.specs.Words.{repair, line, repair_line}
-use Rattle.iot_exchange.proofs.DoesLaws.{by_client, notes}
+use Rattle.iot_exchange.proofs.DoesLaws.{by_client, goes_from, hands_on, notes}
 use Rattle.iot_exchange.proofs.FirstLaws.{decided, undecided, decides}
-use Rattle.iot_exchange.proofs.StepsLaws as steps
+use Rattle.iot_exchange.proofs.StepsLaws.{says_from}
 use Rattle.iot_exchange.proofs.decisions.repair.Goals as goal
 
 pub repair-requires-clause-manual : goal.repair-requires-clause-manual
@@ -14,7 +14,7 @@ returns-in_err-repair-in-Ok g c server ready scripts declared named is =
     (c.repair.ensures.does scripts declared named is)
     c.repair.ensures.disk in
     decides (sym c.decision.ensures ∙ c.in-Ok.is) noted.disks (λ names at mi its_name pair here.
-    steps.from (steps.hands_on c.in_err-repair-in-Ok.was c.from_residual.ensures.1 (noted.step names at)) here)
+    (hands_on c.in_err-repair-in-Ok.was c.from_residual.ensures.1 noted).step _ _ _ here)
 
 pub returns-in_ok-say_repair-in-Ok : goal.returns-in_ok-say_repair-in-Ok
 returns-in_ok-say_repair-in-Ok g c server ready scripts declared named is =
@@ -22,8 +22,8 @@ returns-in_ok-say_repair-in-Ok g c server ready scripts declared named is =
     (c.repair.ensures.does scripts declared named is)
     c.repair.ensures.disk in
     decides (sym c.decision.ensures ∙ c.in-Ok.is) noted.disks (λ names at mi its_name pair here.
-    steps.from (steps.goes_then c.in_ok-repair-in-Ok.was (noted.step names at) (steps.says (λ after there.
-    c.in_ok-say_repair-in-Ok.ensures ∙ (λ i. c.repair.new.out ++ repair_line (sym (its_name after there) i) (sym is i))))) here)
+    goes_from c.in_ok-repair-in-Ok.was noted here (λ after there. says_from (c.in_ok-say_repair-in-Ok.ensures
+    ∙ (λ i. c.repair.new.out ++ repair_line (sym (its_name after there) i) (sym is i))) there))
 
 pub returns-in_ok-say-in-Err : goal.returns-in_ok-say-in-Err
 returns-in_ok-say-in-Err g c server ready scripts declared named is = undecided (sym c.decision.ensures ∙ c.in-Err.is) ready.keeps

@@ -1,5 +1,4 @@
 use Rattle.iot_exchange.proofs.ExchangeLaws.{passed, away}
-use Rattle.iot_exchange.proofs.DoesLaws.{keeps_served}
 use Rattle.iot_exchange.proofs.exchange.miss.Goals as goal
 
 pub returns-clause-all : goal.returns-clause-all
@@ -7,7 +6,3 @@ returns-clause-all g c = λ scripts names at. record {
   none = λ query x. away (passed c.is_up.ensures c.pass.ensures.passage c.pass.ensures.after
       (rw c.requires.down at c.pass.ensures.passage));
 }
-
-pub returns-clause-disks : goal.returns-clause-disks
-returns-clause-disks g c =
-    let keeps = c.requires.ready.keeps in keeps_served keeps c.pass.ensures.disk keeps.server keeps.beside keeps.records

@@ -1,7 +1,7 @@
 use Rattle.std.proofs.Common.{Bool, Ok, sym, ap, ◌∙◌}
 use Rattle.iot_exchange.specs.Words.{took}
 use Rattle.iot_exchange.proofs.DoesLaws.{asks_then, refuses, answers, hands_on, goes_then, no_memory}
-use Rattle.iot_exchange.proofs.ExchangeLaws.{runs_here, pends_here, no_items}
+use Rattle.iot_exchange.proofs.ExchangeLaws.{runs_here, pends_here}
 use Rattle.iot_exchange.proofs.objects.take.Goals as goal
 
 pub returns-then-runs : goal.returns-then-runs
@@ -12,9 +12,6 @@ pub returns-then-waits : goal.returns-then-waits
 returns-then-waits g c scripts =
     asks_then (runs_here (sym c.runs.ensures ∙ c.if-runs.false))
     (asks_then (pends_here (sym c.waits.ensures ∙ c.if-waits.true)) (refuses c.requires.ready.keeps c.in_ok-say-2.ensures))
-
-pub bring-requires-clause-none : goal.bring-requires-clause-none
-bring-requires-clause-none g c = no_items _ (sym c.waits.ensures ∙ c.if-waits.false)
 
 pub returns-in_err-bring : goal.returns-in_err-bring
 returns-in_err-bring g c scripts =

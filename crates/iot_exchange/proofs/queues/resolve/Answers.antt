@@ -1,10 +1,9 @@
 use Rattle.std.proofs.Common.{rules, tests, bytes_eq}
 use Rattle.std.proofs.lemmas.Iterator.{YieldsList-from_slice}
 use Rattle.std.proofs.lemmas.Iterator.Search.{find_from_yields_List}
-use Rattle.iot_exchange.specs.Words.{IsInConflict, Resolved, reach, resolution_of, NoMemory}
+use Rattle.iot_exchange.specs.Words.{IsInConflict, NoMemory}
 use Rattle.iot_exchange.proofs.NamesLaws.{code_found, none_found}
-use Rattle.iot_exchange.specs.Scripts.{scripts_of}
-use Rattle.iot_exchange.proofs.DoesLaws.{by_client, notes, hands_on, then_tells, keeps_more, no_memory}
+use Rattle.iot_exchange.proofs.DoesLaws.{hands_on, then_tells, keeps_more, no_memory}
 use Rattle.iot_exchange.proofs.ExchangeLaws.{asks_whole, whole_came}
 use Rattle.iot_exchange.proofs.FirstLaws.{head_is, declared_for, resolves_away, resolves_told, synced_err}
 use Rattle.iot_exchange.proofs.queues.resolve.Goals as goal
@@ -12,31 +11,26 @@ use Rattle.iot_exchange.proofs.queues.resolve.Goals as goal
 pub exchange-requires-clause-request : goal.exchange-requires-clause-request
 exchange-requires-clause-request g c = record { request = _; is = c.requires.first.is.asked }
 
-pub plan-plan-requires : goal.plan-plan-requires
-plan-plan-requires g c =
-    let same = rw c.in-Some.is at c.in_ok-reply.ensures.same in
-    record {
-      stands = rw same c.requires.ready.ready.alive;
-      conflict = rw same (head_is IsInConflict c.requires.first c.requires.first.is.conflict);
-    }
+pub plan-plan-requires-clause-conflict : goal.plan-plan-requires-clause-conflict
+plan-plan-requires-clause-conflict g c =
+    rw c.in_ok-reply.ensures.state (head_is IsInConflict c.requires.first c.requires.first.is.conflict)
 
 pub unreachable-requires : goal.unreachable-requires
 unreachable-requires g c =
+    let came = rw c.in-Some.is at c.in_ok-reply.ensures.replied in
     none_found c.args.scripts.now c.plan-plan.result.script c.find.result
     (find_from_yields_List (λ w. bytes_eq c.plan-plan.result.script w.name) _ _ _ c.find.ensures.ran
     (YieldsList-from_slice c.args.scripts.now c.iter.ensures.rest) (λ x b q k. search (rules, tests)))
     c.in_default.is
-    (declared_for c.args.request c.requires.first c.plan-plan.result
-    (rw (rw c.in-Some.is at c.in_ok-reply.ensures.same) at c.plan-plan.ensures) c.requires.ready)
+    (declared_for c.args.request c.requires.first c.plan-plan.result (rw came.same at c.plan-plan.ensures) c.requires.ready)
 
 pub resolve-requires : goal.resolve-requires
 resolve-requires g c =
-    let same = rw c.in-Some.is at c.in_ok-reply.ensures.same in
-    let whole = whole_came c.requires.ready.ready (rw c.in-Some.is at c.in_ok-reply.ensures.asked)
-    (record { same = same; lends = rw c.in-Some.is at c.in_ok-reply.ensures.lends }) (asks_whole c.requires.first.is) in
+    let came = rw c.in-Some.is at c.in_ok-reply.ensures.replied in
+    let whole = whole_came came (asks_whole c.requires.first.is) in
     record {
-      stands = rw same c.requires.ready.ready.alive;
-      conflict = rw same (head_is IsInConflict c.requires.first c.requires.first.is.conflict);
+      stands = came.stands;
+      conflict = rw came.same (head_is IsInConflict c.requires.first c.requires.first.is.conflict);
       brings = rw c.deref.ensures.value whole.0;
       whole = rw c.deref.ensures.value whole.1;
       script = rw c.in_ok-code-in-Some.ensures.value c.in_ok-code-in-Some.ensures.script;
@@ -44,53 +38,32 @@ resolve-requires g c =
 
 pub returns-in_err-resolve-in-Some : goal.returns-in_err-resolve-in-Some
 returns-in_err-resolve-in-Some g c =
-    let same = rw c.in-Some.is at c.in_ok-reply.ensures.same in
-    let does = rw c.deref.ensures.value at c.resolve.ensures.does in
-    let asked = rw c.in-Some.is at c.in_ok-reply.ensures.asked in
-    let keeps = (asked (scripts_of c.args.scripts.now)).disks in
-    resolves_told c.args.request c.requires.first c.plan-plan.result (rw same at c.plan-plan.ensures)
+    let came = rw c.in-Some.is at c.in_ok-reply.ensures.replied in
+    resolves_told c.args.request c.requires.first c.plan-plan.result (rw came.same at c.plan-plan.ensures)
     (code_found c.args.scripts.now c.plan-plan.result.script c.find.result
     (find_from_yields_List (λ w. bytes_eq c.plan-plan.result.script w.name) _ _ _ c.find.ensures.ran
     (YieldsList-from_slice c.args.scripts.now c.iter.ensures.rest) (λ x b q k. search (rules, tests)))
-    c.in-Some-find.is c.in_ok-code-in-Some.ensures.value) (keeps_more keeps c.resolve.ensures.disk) c.requires.ready.ready asked
-    (record { same = same; lends = rw c.in-Some.is at c.in_ok-reply.ensures.lends })
-    (λ p u spells plans coded. hands_on c.in_err-resolve-in-Some.was
-    (synced_err c.in_err-resolve-in-Some.field-0.0 _ c.from_residual-in_err-resolve-in-Some.ensures.1)
-    (by_client (notes (reach (Resolved (resolution_of p u)))) keeps c.resolve.ensures.place
-    c.resolve.ensures.trails (does u spells _ p (rw same plans) coded) c.resolve.ensures.disk))
+    c.in-Some-find.is c.in_ok-code-in-Some.ensures.value) came c.in_ok-reply.ensures.disks
+    (rw c.deref.ensures.value at c.resolve.ensures.does) c.resolve.ensures.place c.resolve.ensures.trails c.resolve.ensures.disk
+    (λ p u. hands_on c.in_err-resolve-in-Some.was
+    (synced_err c.in_err-resolve-in-Some.field-0.0 _ c.from_residual-in_err-resolve-in-Some.ensures.1))
 
 pub returns-in-Some : goal.returns-in-Some
 returns-in-Some g c =
-    let same = rw c.in-Some.is at c.in_ok-reply.ensures.same in
-    let does = rw c.deref.ensures.value at c.resolve.ensures.does in
-    let asked = rw c.in-Some.is at c.in_ok-reply.ensures.asked in
-    let keeps = (asked (scripts_of c.args.scripts.now)).disks in
-    resolves_told c.args.request c.requires.first c.plan-plan.result (rw same at c.plan-plan.ensures)
+    let came = rw c.in-Some.is at c.in_ok-reply.ensures.replied in
+    resolves_told c.args.request c.requires.first c.plan-plan.result (rw came.same at c.plan-plan.ensures)
     (code_found c.args.scripts.now c.plan-plan.result.script c.find.result
     (find_from_yields_List (λ w. bytes_eq c.plan-plan.result.script w.name) _ _ _ c.find.ensures.ran
     (YieldsList-from_slice c.args.scripts.now c.iter.ensures.rest) (λ x b q k. search (rules, tests)))
-    c.in-Some-find.is c.in_ok-code-in-Some.ensures.value) (keeps_more keeps c.resolve.ensures.disk) c.requires.ready.ready asked
-    (record { same = same; lends = rw c.in-Some.is at c.in_ok-reply.ensures.lends })
-    (λ p u spells plans coded. then_tells c.in_ok-resolve-in-Some.was
-    (by_client (notes (reach (Resolved (resolution_of p u)))) keeps c.resolve.ensures.place
-    c.resolve.ensures.trails (does u spells _ p (rw same plans) coded) c.resolve.ensures.disk)
-    (λ names at pair here. c.in_ok-say_resolve-in-Some.ensures))
+    c.in-Some-find.is c.in_ok-code-in-Some.ensures.value) came c.in_ok-reply.ensures.disks
+    (rw c.deref.ensures.value at c.resolve.ensures.does) c.resolve.ensures.place c.resolve.ensures.trails c.resolve.ensures.disk
+    (λ p u did. then_tells c.in_ok-resolve-in-Some.was did (λ names at pair here. c.in_ok-say_resolve-in-Some.ensures))
 
 pub returns : goal.returns
-returns g c = resolves_away c.args.request c.requires.first
-    (rw c.in-None.is at (c.in_ok-reply.ensures.asked (scripts_of c.args.scripts.now))) c.in_ok-say-in-None.ensures
+returns g c = resolves_away c.args.request c.requires.first (rw c.in-None.is at c.in_ok-reply.ensures.replied)
+    c.in_ok-reply.ensures.disks c.in_ok-say-in-None.ensures
 
 pub returns-in_err-say_resolve-in-Some : goal.returns-in_err-say_resolve-in-Some
 returns-in_err-say_resolve-in-Some g c =
     no_memory (synced_err NoMemory _ c.from_residual-in_err-say_resolve-in-Some.ensures.1)
-    (keeps_more (c.in_ok-reply.ensures.asked (scripts_of c.args.scripts.now)).disks c.resolve.ensures.disk)
-
-pub returns-in_err-code-in-Some : goal.returns-in_err-code-in-Some
-returns-in_err-code-in-Some g c =
-    no_memory (synced_err NoMemory _ c.from_residual-in_err-code-in-Some.ensures.1)
-    (c.in_ok-reply.ensures.asked (scripts_of c.args.scripts.now)).disks
-
-pub returns-in_err-say-in-None : goal.returns-in_err-say-in-None
-returns-in_err-say-in-None g c =
-    no_memory (synced_err NoMemory _ c.from_residual-in_err-say-in-None.ensures.1)
-    (c.in_ok-reply.ensures.asked (scripts_of c.args.scripts.now)).disks
+    (keeps_more c.in_ok-reply.ensures.disks c.resolve.ensures.disk)

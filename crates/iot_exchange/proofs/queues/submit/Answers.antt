@@ -1,8 +1,8 @@
 use Rattle.std.proofs.Common.{◌++◌, ap, sym, ◌∙◌}
 use Rattle.std.proofs.lemmas.Option.{same_Some}
-use Rattle.iot_exchange.specs.Words.{IsSubmitted, done, name_of, told_change, NoMemory}
+use Rattle.iot_exchange.specs.Words.{IsSubmitted, done, name_of, NoMemory}
 use Rattle.iot_exchange.specs.Saying.{told_text, told_synced}
-use Rattle.iot_exchange.proofs.DoesLaws.{by_client, notes, hands_on, then_tells, keeps_more, no_memory}
+use Rattle.iot_exchange.proofs.DoesLaws.{hands_on, then_tells, keeps_more, no_memory}
 use Rattle.iot_exchange.proofs.FirstLaws.{head_is, verdict_came, submits_away, submits_told, synced_err}
 use Rattle.iot_exchange.proofs.queues.submit.Goals as goal
 
@@ -11,49 +11,39 @@ exchange-requires-clause-request g c = record { request = _; is = c.requires.fir
 
 pub take_verdict-requires : goal.take_verdict-requires
 take_verdict-requires g c =
-    let same = rw c.in-Some.is at c.in_ok-reply.ensures.same in
+    let came = rw c.in-Some.is at c.in_ok-reply.ensures.replied in
     record {
-      stands = rw same c.requires.ready.alive;
-      submitted = rw same (head_is IsSubmitted c.requires.first c.requires.first.is.submitted);
-      told = rw (same, c.deref.ensures.value)
-          (verdict_came c.args.submitted c.requires.first c.requires.ready (rw c.in-Some.is at c.in_ok-reply.ensures.asked));
+      stands = came.stands;
+      submitted = rw came.same (head_is IsSubmitted c.requires.first c.requires.first.is.submitted);
+      told = rw (came.same, c.deref.ensures.value) (verdict_came c.args.submitted c.requires.first came);
     }
 
 pub returns-in_err-told-in-Some : goal.returns-in_err-told-in-Some
 returns-in_err-told-in-Some g c scripts =
-    let settles = rw (c.in_ok-reply.ensures.state, c.deref.ensures.value) at c.take_verdict.ensures.does in
-    let asked = rw c.in-Some.is at (c.in_ok-reply.ensures.asked scripts) in
-    submits_told c.args.submitted c.requires.first (keeps_more asked.disks c.take_verdict.ensures.disk) asked
-    (λ verdict option spells has.
+    submits_told c.args.submitted c.requires.first (rw c.in-Some.is at c.in_ok-reply.ensures.replied) c.in_ok-reply.ensures.disks
+    (rw (c.in_ok-reply.ensures.state, c.deref.ensures.value) at c.take_verdict.ensures.does) c.take_verdict.ensures.place
+    c.take_verdict.ensures.trails c.take_verdict.ensures.disk (λ verdict option spells has.
     hands_on (ap done c.in_err-told-in-Some.was)
-    (synced_err c.in_err-told-in-Some.field-0.0 _ c.from_residual-in_err-told-in-Some.ensures.1)
-    (by_client (notes (told_change verdict option)) asked.disks c.take_verdict.ensures.place
-    c.take_verdict.ensures.trails (settles verdict option spells has scripts) c.take_verdict.ensures.disk))
+    (synced_err c.in_err-told-in-Some.field-0.0 _ c.from_residual-in_err-told-in-Some.ensures.1))
 
 pub returns-in-Some : goal.returns-in-Some
 returns-in-Some g c scripts =
-    let settles = rw (c.in_ok-reply.ensures.state, c.deref.ensures.value) at c.take_verdict.ensures.does in
-    let is_told = rw (rw c.in-Some.is at c.in_ok-reply.ensures.same, c.deref.ensures.value) at c.in_ok-told-in-Some.ensures.told in
-    let asked = rw c.in-Some.is at (c.in_ok-reply.ensures.asked scripts) in
-    submits_told c.args.submitted c.requires.first (keeps_more asked.disks c.take_verdict.ensures.disk) asked
-    (λ verdict option spells has.
+    let came = rw c.in-Some.is at c.in_ok-reply.ensures.replied in
+    let is_told = rw (came.same, c.deref.ensures.value) at c.in_ok-told-in-Some.ensures.told in
+    submits_told c.args.submitted c.requires.first came c.in_ok-reply.ensures.disks
+    (rw (c.in_ok-reply.ensures.state, c.deref.ensures.value) at c.take_verdict.ensures.does) c.take_verdict.ensures.place
+    c.take_verdict.ensures.trails c.take_verdict.ensures.disk (λ verdict option spells has did.
     let which = is_told.verdict verdict spells in
     let chosen = same_Some _ _ (sym is_told.option ∙ has) in
-    rw (c.by.ensures ∙ (λ i. told_synced (which i) (chosen i))) (then_tells (ap done c.in_ok-told-in-Some.was)
-    (by_client (notes (told_change verdict option)) asked.disks c.take_verdict.ensures.place
-    c.take_verdict.ensures.trails (settles verdict option spells has scripts) c.take_verdict.ensures.disk)
+    rw (c.by.ensures ∙ (λ i. told_synced (which i) (chosen i))) (then_tells (ap done c.in_ok-told-in-Some.was) did
     (λ names at pair here. c.in_ok-say_told-in-Some.ensures
     ∙ (λ i. c.take_verdict.new.out ++ told_text (name_of c.args.transaction.now) (which i) (chosen i)))))
 
 pub returns : goal.returns
-returns g c scripts = submits_away c.args.submitted c.requires.first
-    (rw c.in-None.is at (c.in_ok-reply.ensures.asked scripts)) c.in_ok-say-in-None.ensures
+returns g c scripts = submits_away c.args.submitted c.requires.first (rw c.in-None.is at c.in_ok-reply.ensures.replied)
+    c.in_ok-reply.ensures.disks c.in_ok-say-in-None.ensures
 
 pub returns-in_err-say_told-in-Some : goal.returns-in_err-say_told-in-Some
 returns-in_err-say_told-in-Some g c scripts =
     no_memory (synced_err NoMemory _ c.from_residual-in_err-say_told-in-Some.ensures.1)
-    (keeps_more (c.in_ok-reply.ensures.asked scripts).disks c.take_verdict.ensures.disk)
-
-pub returns-in_err-say-in-None : goal.returns-in_err-say-in-None
-returns-in_err-say-in-None g c scripts =
-    no_memory (synced_err NoMemory _ c.from_residual-in_err-say-in-None.ensures.1) (c.in_ok-reply.ensures.asked scripts).disks
+    (keeps_more c.in_ok-reply.ensures.disks c.take_verdict.ensures.disk)

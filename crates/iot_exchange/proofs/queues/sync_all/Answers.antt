@@ -1,13 +1,10 @@
 use Rattle.std.proofs.Common.{Err, refl, sym, ap, ◌∙◌}
 use Rattle.iot_exchange.specs.Words.{moves, sync_if}
 use Rattle.iot_exchange.specs.Saying.{synced_by}
-use Rattle.iot_exchange.proofs.DoesLaws.{none_yet, one_more, last_round, halted_round, all_rounds, ready_after, asks_then, answers}
+use Rattle.iot_exchange.proofs.DoesLaws.{one_more, last_round, halted_round, all_rounds, ready_after, asks_then, answers}
 use Rattle.iot_exchange.proofs.DoesLaws.{hands_on, then_answers, all_by}
 use Rattle.iot_exchange.proofs.ExchangeLaws.{pends_here}
 use Rattle.iot_exchange.proofs.queues.sync_all.Goals as goal
-
-pub syncs-init : goal.syncs-init
-syncs-init g c = (none_yet, c.requires)
 
 pub returns-then-not-waits : goal.returns-then-not-waits
 returns-then-not-waits g c = all_by c.in_ok-most.ensures (last_round c.syncs.invariant.0 c.syncs-test.true

@@ -1,24 +1,21 @@
 use Rattle.std.proofs.Common.{Err, sym, ap, ◌∙◌}
 use Rattle.std.proofs.lemmas.Result.{on_ok_weaker}
 use Rattle.iot_exchange.specs.Words.{Halt}
-use Rattle.iot_exchange.proofs.DoesLaws.{keeps_standing, ready_there, says_down, all_done, all_over}
+use Rattle.iot_exchange.proofs.DoesLaws.{keeps_standing, says_down, all_done, all_over}
 use Rattle.iot_exchange.proofs.tasks.perform.Goals as goal
 
 pub returns-then-not-is_alive-clause-step : goal.returns-then-not-is_alive-clause-step
 returns-then-not-is_alive-clause-step g c =
-    on_ok_weaker c.say.result (λ wrote. says_down (sym c.is_alive.ensures ∙ c.if-not-is_alive.true) wrote) c.say.ensures
+    on_ok_weaker c.say.result (λ wrote names at. says_down names at (sym c.is_alive.ensures ∙ c.if-not-is_alive.true) wrote) c.say.ensures
 
 pub returns-then-not-is_alive-clause-disks : goal.returns-then-not-is_alive-clause-disks
 returns-then-not-is_alive-clause-disks g c = keeps_standing c.requires.stands.stands
 
-pub carry_out-requires-clause-ready : goal.carry_out-requires-clause-ready
-carry_out-requires-clause-ready g c = ready_there (sym c.is_alive.ensures ∙ c.if-not-is_alive.false) c.requires.stands
-
 pub returns-in-Ok-clause-step : goal.returns-in-Ok-clause-step
 returns-in-Ok-clause-step g c names at =
-    all_done (sym c.is_alive.ensures ∙ c.if-not-is_alive.false) c.carry_out.ensures names at c.in-Ok.is
+    all_done names at (sym c.is_alive.ensures ∙ c.if-not-is_alive.false) c.carry_out.ensures c.in-Ok.is
 
 pub returns-in-Over-clause-step : goal.returns-in-Over-clause-step
 returns-in-Over-clause-step g c names at =
-    all_over (sym c.is_alive.ensures ∙ c.if-not-is_alive.false) c.carry_out.ensures names at
+    all_over names at (sym c.is_alive.ensures ∙ c.if-not-is_alive.false) c.carry_out.ensures
     (c.in-Err.is ∙ ap (λ (halt : Halt). Err halt) c.in-Over.is)

@@ -1,27 +1,20 @@
-use Rattle.std.proofs.Common.{List, ◌<◌, length, false, sym, subst, ◌∙◌}
-use Rattle.iot_kept.specs.States.{Transaction}
-use Rattle.iot_exchange.specs.Words.{most_running}
+use Rattle.std.proofs.Common.{false, sym, ◌∙◌}
+use Rattle.iot_exchange.specs.Words.{KeepsTrails}
 use Rattle.iot_exchange.specs.Scripts.{script_of}
-use Rattle.iot_exchange.proofs.DoesLaws.{asks_then, refuses, goes_then, hands_on, by_client_of, starts, ready_after}
-use Rattle.iot_exchange.proofs.ExchangeLaws.{full_here, has_room, no_items, pends_here}
+use Rattle.iot_exchange.proofs.DoesLaws.{asks_then, refuses, goes_then, hands_on, by_client, starts, ready_after, unless_done}
+use Rattle.iot_exchange.proofs.ExchangeLaws.{full_here, pends_here}
 use Rattle.iot_exchange.proofs.transactions.begin.Goals as goal
 
 pub returns-then-is_full : goal.returns-then-is_full
 returns-then-is_full g c scripts on_conflict means =
     asks_then (full_here (sym c.is_full.ensures ∙ c.if-is_full.true)) (refuses c.requires.keeps c.in_ok-say.ensures)
 
-pub start-requires-clause-room : goal.start-requires-clause-room
-start-requires-clause-room g c = has_room _ (sym c.is_full.ensures ∙ c.if-is_full.false)
-
 pub returns-then-waits : goal.returns-then-waits
 returns-then-waits g c scripts on_conflict means =
     asks_then (full_here (sym c.is_full.ensures ∙ c.if-is_full.false))
     (asks_then (pends_here (sym c.waits.ensures ∙ c.if-waits.true))
-    (by_client_of (starts (script_of c.args.script.now) on_conflict false) c.requires.keeps c.start.ensures.place
-    c.start.ensures.trails (c.start.ensures.does scripts on_conflict means.script_is means.resolver means.option_is) c.start.ensures.disk))
-
-pub bring-requires-clause-none : goal.bring-requires-clause-none
-bring-requires-clause-none g c = no_items _ (sym c.waits.ensures ∙ c.if-waits.false)
+    (by_client (starts (script_of c.args.script.now) on_conflict false) c.requires.keeps c.start.ensures.place
+    (unless_done (KeepsTrails c.args.laptop.now c.start.new.laptop) c.start.result c.start.ensures.trails) (c.start.ensures.does scripts on_conflict means.script_is means.resolver means.option_is) c.start.ensures.disk))
 
 pub returns-in_err-first : goal.returns-in_err-first
 returns-in_err-first g c scripts on_conflict means =
@@ -32,17 +25,12 @@ returns-in_err-first g c scripts on_conflict means =
 pub start-requires-2-clause-stands : goal.start-requires-2-clause-stands
 start-requires-2-clause-stands g c = (ready_after c.in_ok-first.was (c.bring.ensures.does _) c.requires.stands).ready.alive
 
-pub start-requires-2-clause-room : goal.start-requires-2-clause-room
-start-requires-2-clause-room g c =
-    subst (λ (running : List Transaction). length running < most_running) (sym c.in_ok-first.ensures.running)
-    (has_room _ (sym c.is_full.ensures ∙ c.if-is_full.false))
-
 pub returns : goal.returns
 returns g c scripts on_conflict means =
     asks_then (full_here (sym c.is_full.ensures ∙ c.if-is_full.false))
     (asks_then (pends_here (sym c.waits.ensures ∙ c.if-waits.false))
     (goes_then c.in_ok-first.was (c.bring.ensures.does scripts)
-    (by_client_of (starts (script_of c.args.script.now) on_conflict c.in_ok-first.first) (c.bring.ensures.does scripts).disks
-    c.start-2.ensures.place c.start-2.ensures.trails
+    (by_client (starts (script_of c.args.script.now) on_conflict c.in_ok-first.first) (c.bring.ensures.does scripts).disks
+    c.start-2.ensures.place (unless_done (KeepsTrails c.bring.new.laptop c.start-2.new.laptop) c.start-2.result c.start-2.ensures.trails)
     (c.start-2.ensures.does scripts on_conflict means.script_is means.resolver means.option_is)
     c.start-2.ensures.disk)))

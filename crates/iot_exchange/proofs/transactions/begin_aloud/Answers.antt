@@ -1,8 +1,9 @@
 use Rattle.std.proofs.Common.{◌++◌, refl, sym, ap, ◌∙◌}
 use Rattle.std.specs.Prelude.{option_map}
 use Rattle.std.specs.Option.{option_copied}
-use Rattle.iot_exchange.specs.Words.{Closes, Transaction, begin_line, begin_text, transaction, transaction_name}
+use Rattle.iot_exchange.specs.Words.{Closes, Transaction, begin_line, begin_text, transaction_name}
 use Rattle.iot_exchange.proofs.DoesLaws.{goes_then, hands_on, ready_after, tells}
+use Rattle.iot_exchange.proofs.RunningLaws.{lent_run}
 use Rattle.iot_exchange.proofs.TransactionsLaws.{begun_said, none_said}
 use Rattle.iot_exchange.proofs.transactions.begin_aloud.Goals as goal
 
@@ -19,7 +20,7 @@ returns-in_ok-say_begin-in-Some g c scripts on_conflict means =
     goes_then {next = λ number. Closes (begin_text number)} c.in_ok-number.was (c.begin.ensures scripts on_conflict means)
     (tells (c.begin.ensures scripts on_conflict means).disks (λ names at pair here.
     begun_said here.client.is c.in_ok-number.number c.begin.new.out c.say_begin.new.out _
-    (sym c.run.ensures.running ∙ ap (λ o. option_map transaction (option_copied o)) c.in-Some.is) c.in-Some.running.now.first
+    (lent_run c.run.ensures.running c.in-Some.is) c.in-Some.running.now.first
     (ap (λ o. option_map (λ it. it.first) (option_copied o)) (sym c.in-Some.is) ∙ c.run.ensures.class)
     (c.in_ok-say_begin-in-Some.ensures
     ∙ ap (λ (t : Transaction). c.begin.new.out
@@ -31,4 +32,4 @@ returns-in-None g c scripts on_conflict means =
     goes_then {next = λ number. Closes (begin_text number)} c.in_ok-number.was (c.begin.ensures scripts on_conflict means)
     (tells (c.begin.ensures scripts on_conflict means).disks (λ names at pair here.
     none_said here.client.is c.in_ok-number.number c.begin.new.out c.begin.new.out _
-    (sym c.run.ensures.running ∙ ap (λ o. option_map transaction (option_copied o)) c.in-None.is) refl))
+    (lent_run c.run.ensures.running c.in-None.is) refl))

@@ -1,9 +1,9 @@
 use Rattle.std.proofs.Common.{Ok, ◌++◌, ap, sym, ◌∙◌}
 use Rattle.iot_laptop.specs.declared.needs.Certified.{Certified}
 use Rattle.iot_exchange.specs.Words.{Asks, KeepsTrails, Then, Transaction, again_line, compared_if, end_by, if_runs, name_of, next_of}
-use Rattle.iot_exchange.proofs.DoesLaws.{asks_then, by_client_of, certifies_one, keeps_more, no_memory, ready_after, refuses}
+use Rattle.iot_exchange.proofs.DoesLaws.{asks_then, by_client, certifies_one, hands_on, keeps_more, no_memory, ready_after, refuses}
 use Rattle.iot_exchange.proofs.RunningLaws.{none_meant}
-use Rattle.iot_exchange.proofs.YieldingLaws.{end_again, end_halted, end_joined, not_ended, trails_found}
+use Rattle.iot_exchange.proofs.YieldingLaws.{certified_then, end_again, end_joined, not_ended, trails_found}
 use Rattle.iot_exchange.proofs.transactions.end.Goals as goal
 
 pub returns-in_default : goal.returns-in_default
@@ -18,16 +18,16 @@ returns-then-not-may_end g c =
 
 pub returns-in_err-gone : goal.returns-in_err-gone
 returns-in_err-gone g c =
-    end_halted c.args.which (sym c.meant.ensures ∙ c.in-Some.is) c.end.ensures.over (ap compared_if c.in_err-gone.was)
-    c.from_residual-in_err-gone.ensures.1
-    (by_client_of (certifies_one c.in-Some.number) c.requires.ready.keeps c.end.ensures.place
+    let did = by_client (certifies_one c.in-Some.number) c.requires.ready.keeps c.end.ensures.place
     (trails_found (KeepsTrails c.args.laptop.now c.end.new.self) c.end.result c.end.ensures.trails) (c.end.ensures.does _)
-    c.end.ensures.disk)
+    c.end.ensures.disk in
+    certified_then c.args.which (sym c.meant.ensures ∙ c.in-Some.is) c.end.ensures.over did.disks (λ names at pair it here found same.
+    (hands_on (ap compared_if c.in_err-gone.was) c.from_residual-in_err-gone.ensures.1 did).step _ _ _ here)
 
 pub join-requires : goal.join-requires
 join-requires g c =
     ready_after (ap compared_if (c.in_ok-gone.was ∙ ap (λ (it : Certified). Ok it) c.in-Joined.is))
-    (by_client_of (certifies_one c.in-Some.number) c.requires.ready.keeps c.end.ensures.place
+    (by_client (certifies_one c.in-Some.number) c.requires.ready.keeps c.end.ensures.place
     (trails_found (KeepsTrails c.args.laptop.now c.end.new.self) c.end.result c.end.ensures.trails) (c.end.ensures.does _)
     c.end.ensures.disk)
     c.requires.stands
@@ -36,21 +36,21 @@ pub returns-in-Joined : goal.returns-in-Joined
 returns-in-Joined g c =
     end_joined c.args.which (sym c.meant.ensures ∙ c.in-Some.is) c.end.ensures.over c.in-Joined.gone
     (ap compared_if (c.in_ok-gone.was ∙ ap (λ (it : Certified). Ok it) c.in-Joined.is)) (rw c.in-Joined.is at c.in_ok-gone.ensures.gone)
-    (by_client_of (certifies_one c.in-Some.number) c.requires.ready.keeps c.end.ensures.place
+    (by_client (certifies_one c.in-Some.number) c.requires.ready.keeps c.end.ensures.place
     (trails_found (KeepsTrails c.args.laptop.now c.end.new.self) c.end.result c.end.ensures.trails) (c.end.ensures.does _)
     c.end.ensures.disk)
     c.join.ensures
 
-pub returns-in_ok-say_again-in-Again : goal.returns-in_ok-say_again-in-Again
-returns-in_ok-say_again-in-Again g c =
+pub returns-in_ok-say_read-in-Again : goal.returns-in_ok-say_read-in-Again
+returns-in_ok-say_read-in-Again g c =
     end_again c.args.which (sym c.meant.ensures ∙ c.in-Some.is) c.end.ensures.over c.in-Again.read c.in-Again.question
     (ap compared_if (c.in_ok-gone.was ∙ ap (λ (it : Certified). Ok it) c.in-Again.is))
-    (by_client_of (certifies_one c.in-Some.number) c.requires.ready.keeps c.end.ensures.place
+    (by_client (certifies_one c.in-Some.number) c.requires.ready.keeps c.end.ensures.place
     (trails_found (KeepsTrails c.args.laptop.now c.end.new.self) c.end.result c.end.ensures.trails) (c.end.ensures.does _)
     c.end.ensures.disk)
-    (c.in_ok-say_again-in-Again.ensures
+    (c.in_ok-say_read-in-Again.ensures
     ∙ ap (λ (t : Transaction). c.end.new.out ++ again_line (name_of t) c.in-Again.read c.in-Again.question) c.transaction.ensures)
 
-pub returns-in_err-say_again-in-Again : goal.returns-in_err-say_again-in-Again
-returns-in_err-say_again-in-Again g c = no_memory c.from_residual-in_err-say_again-in-Again.ensures.1
+pub returns-in_err-say_read-in-Again : goal.returns-in_err-say_read-in-Again
+returns-in_err-say_read-in-Again g c = no_memory c.from_residual-in_err-say_read-in-Again.ensures.1
     (keeps_more c.requires.ready.keeps c.end.ensures.disk)

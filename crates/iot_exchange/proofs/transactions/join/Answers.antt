@@ -3,7 +3,7 @@ use Rattle.iot_exchange.specs.Ending.{ended_as}
 use Rattle.iot_exchange.specs.Saying.{synced_by}
 use Rattle.iot_exchange.specs.Words.{waits_unless}
 use Rattle.iot_exchange.specs.declared.synced.Synced.{Synced}
-use Rattle.iot_exchange.proofs.DoesLaws.{answers, goes_then, hands_on, no_memory, tells}
+use Rattle.iot_exchange.proofs.DoesLaws.{answers, goes_then, hands_on, tells}
 use Rattle.iot_exchange.proofs.YieldingLaws.{ends_aloud}
 use Rattle.iot_exchange.proofs.transactions.join.Goals as goal
 
@@ -35,7 +35,3 @@ returns-in-Stays g c =
     ends_aloud c.args.gone.now c.requires.ready.keeps c.in_ok-say_of.ensures c.if-not-gone.false
     (goes_then {next = waits_unless (ended_as c.args.gone.now)}
     (ap synced_by (c.in_ok-sync.was ∙ ap (λ (how : Synced). Ok how) c.in-Stays.is)) c.sync.ensures (answers c.sync.ensures.disks))
-
-pub returns-in_err-say_pending-in-Unanswered : goal.returns-in_err-say_pending-in-Unanswered
-returns-in_err-say_pending-in-Unanswered g c =
-    no_memory c.from_residual-in_err-say_pending-in-Unanswered.ensures.1 c.sync.ensures.disks

@@ -1,11 +1,7 @@
-use Rattle.iot_exchange.proofs.DoesLaws.{laptop_keeps}
 use Rattle.iot_exchange.proofs.transactions.start.Goals as goal
 
 pub returns-clause-does : goal.returns-clause-does
 returns-clause-does g c = rw c.in_ok-code.ensures.value at c.begin.ensures.does
-
-pub returns-in_err-code-clause-disk : goal.returns-in_err-code-clause-disk
-returns-in_err-code-clause-disk g c = laptop_keeps c.requires.stands
 
 pub begin-requires-clause-script : goal.begin-requires-clause-script
 begin-requires-clause-script g c = rw c.in_ok-code.ensures.value c.in_ok-code.ensures.script

@@ -1,29 +1,27 @@
-use Rattle.std.proofs.Common.{Ok, ap, not, ◌∙◌}
+use Rattle.std.proofs.Common.{Ok, ap, ◌∙◌}
 use Rattle.iot_tree.specs.declared.want.Want.TheVariants as wanted
 use Rattle.iot_exchange.specs.Words.{Step, fetched}
 use Rattle.iot_exchange.proofs.DoesLaws.{answers, goes_then, hands_on, no_memory, keeps_more, keeps_then}
-use Rattle.iot_exchange.proofs.RunningLaws.{lent_runs, none_lent}
+use Rattle.iot_exchange.proofs.RunningLaws.{lent_run}
 use Rattle.iot_exchange.proofs.TransactionsLaws.{fetched_quiet, fetched_loud}
 use Rattle.iot_exchange.proofs.YieldingLaws.{steps_none, steps_by, step_acted, step_halted, ready_reclassed}
 use Rattle.iot_exchange.proofs.transactions.step.Goals as goal
 
-pub returns-then-is_none : goal.returns-then-is_none
-returns-then-is_none g c scripts =
-    steps_none c.args.number c.args.loud (none_lent _ c.run.ensures.running (c.is_none.ensures ∙ ap not c.if-is_none.true)) c.requires.keeps
-
-pub step-requires-clause-runs : goal.step-requires-clause-runs
-step-requires-clause-runs g c = lent_runs _ c.run.ensures.running (c.is_none.ensures ∙ ap not c.if-is_none.false)
+pub returns-in_default : goal.returns-in_default
+returns-in_default g c scripts =
+    steps_none c.args.number c.args.loud (lent_run c.run.ensures.running c.in_default.is)
+    c.requires.keeps
 
 pub returns-in_err-step : goal.returns-in_err-step
 returns-in_err-step g c scripts =
-    step_halted c.args.number c.args.loud (lent_runs _ c.run.ensures.running (c.is_none.ensures ∙ ap not c.if-is_none.false)) c.in_err-step.was
+    step_halted c.args.number c.args.loud (lent_run c.run.ensures.running c.in-Some.is) c.in_err-step.was
     c.step.ensures.next c.from_residual.ensures.1 c.requires.keeps c.step.ensures.place c.step.ensures.trails c.step.ensures.does
     c.step.ensures.disk
 
 pub returns-in-Acted : goal.returns-in-Acted
 returns-in-Acted g c scripts =
     let was = c.in_ok-step.was ∙ ap (λ (s : Step). Ok s) c.in-Acted.is in
-    step_acted c.args.number c.args.loud (lent_runs _ c.run.ensures.running (c.is_none.ensures ∙ ap not c.if-is_none.false))
+    step_acted c.args.number c.args.loud (lent_run c.run.ensures.running c.in-Some.is)
     (rw was at c.step.ensures.next) c.requires.keeps c.step.ensures.place (rw was at c.step.ensures.trails) (rw was at c.step.ensures.does)
     c.step.ensures.disk
 
@@ -31,21 +29,21 @@ pub returns-in-AtEnd : goal.returns-in-AtEnd
 returns-in-AtEnd g c scripts =
     let was = c.in_ok-step.was ∙ ap (λ (s : Step). Ok s) c.in-AtEnd.is in
     let keeps = keeps_more c.requires.keeps c.step.ensures.disk in
-    steps_by c.args.number c.args.loud (lent_runs _ c.run.ensures.running (c.is_none.ensures ∙ ap not c.if-is_none.false))
+    steps_by c.args.number c.args.loud (lent_run c.run.ensures.running c.in-Some.is)
     (rw was at c.step.ensures.next) (rw was at c.step.ensures.does) keeps (answers keeps)
 
 pub returns-in-AtLimit : goal.returns-in-AtLimit
 returns-in-AtLimit g c scripts =
     let was = c.in_ok-step.was ∙ ap (λ (s : Step). Ok s) c.in-AtLimit.is in
     let keeps = keeps_more c.requires.keeps c.step.ensures.disk in
-    steps_by c.args.number c.args.loud (lent_runs _ c.run.ensures.running (c.is_none.ensures ∙ ap not c.if-is_none.false))
+    steps_by c.args.number c.args.loud (lent_run c.run.ensures.running c.in-Some.is)
     (rw was at c.step.ensures.next) (rw was at c.step.ensures.does) keeps (answers keeps)
 
 pub fetch-requires : goal.fetch-requires
 fetch-requires g c =
     let asks = rw (c.in_ok-step.was ∙ ap (λ (s : Step). Ok s) c.in-Fetch.is) at c.step.ensures.does in
     record {
-      ready = ready_reclassed c.args.number asks.0 c.step.ensures.disk c.requires;
+      ready = ready_reclassed c.args.number asks.0 c.requires;
       first = asks.3;
       none = asks.4;
       asked = record { want = wanted.Path c.in-Fetch.path; is = asks.2 };
@@ -56,7 +54,7 @@ returns-in_err-came-in-Fetch g c scripts =
     let was = c.in_ok-step.was ∙ ap (λ (s : Step). Ok s) c.in-Fetch.is in
     let asks = rw was at c.step.ensures.does in
     let does = c.fetch.ensures (wanted.Path c.in-Fetch.path) asks.2 scripts in
-    steps_by c.args.number c.args.loud (lent_runs _ c.run.ensures.running (c.is_none.ensures ∙ ap not c.if-is_none.false))
+    steps_by c.args.number c.args.loud (lent_run c.run.ensures.running c.in-Some.is)
     (rw was at c.step.ensures.next) (asks.0, asks.1) (keeps_then (keeps_more c.requires.keeps c.step.ensures.disk) does.disks)
     (hands_on c.in_err-came-in-Fetch.was c.from_residual-in_err-came-in-Fetch.ensures.1 does)
 
@@ -65,7 +63,7 @@ returns-then-not-loud g c scripts =
     let was = c.in_ok-step.was ∙ ap (λ (s : Step). Ok s) c.in-Fetch.is in
     let asks = rw was at c.step.ensures.does in
     let does = c.fetch.ensures (wanted.Path c.in-Fetch.path) asks.2 scripts in
-    steps_by c.args.number c.args.loud (lent_runs _ c.run.ensures.running (c.is_none.ensures ∙ ap not c.if-is_none.false))
+    steps_by c.args.number c.args.loud (lent_run c.run.ensures.running c.in-Some.is)
     (rw was at c.step.ensures.next) (asks.0, asks.1) (keeps_then (keeps_more c.requires.keeps c.step.ensures.disk) does.disks)
     (goes_then {next = fetched c.args.loud c.in-Fetch.path} c.in_ok-came-in-Fetch.was does
     (fetched_quiet c.in-Fetch.path does.disks c.in_ok-came-in-Fetch.came c.if-not-loud.true))
@@ -75,7 +73,7 @@ returns-in_ok-say_fetch-in-Fetch g c scripts =
     let was = c.in_ok-step.was ∙ ap (λ (s : Step). Ok s) c.in-Fetch.is in
     let asks = rw was at c.step.ensures.does in
     let does = c.fetch.ensures (wanted.Path c.in-Fetch.path) asks.2 scripts in
-    steps_by c.args.number c.args.loud (lent_runs _ c.run.ensures.running (c.is_none.ensures ∙ ap not c.if-is_none.false))
+    steps_by c.args.number c.args.loud (lent_run c.run.ensures.running c.in-Some.is)
     (rw was at c.step.ensures.next) (asks.0, asks.1) (keeps_then (keeps_more c.requires.keeps c.step.ensures.disk) does.disks)
     (goes_then {next = fetched c.args.loud c.in-Fetch.path} c.in_ok-came-in-Fetch.was does
     (fetched_loud c.in-Fetch.path does.disks c.in_ok-came-in-Fetch.came c.if-not-loud.false c.in_ok-say_fetch-in-Fetch.ensures))

@@ -1,12 +1,10 @@
-use Rattle.std.proofs.Common.{◌++◌, refl, sym, ap, ◌∙◌}
-use Rattle.std.specs.Prelude.{option_map}
-use Rattle.std.specs.Option.{option_copied}
+use Rattle.std.proofs.Common.{◌++◌, refl, sym, ◌∙◌}
 use Rattle.iot_exchange.specs.Saying.{place_said}
-use Rattle.iot_exchange.specs.Words.{if_runs, step_line, transaction, transaction_name}
-use Rattle.iot_exchange.proofs.DoesLaws.{asks_then, no_memory, ready_after, refuses}
-use Rattle.iot_exchange.proofs.RunningLaws.{none_meant}
+use Rattle.iot_exchange.specs.Words.{if_runs, step_line, transaction_name}
+use Rattle.iot_exchange.proofs.DoesLaws.{asks_then, hands_on, no_memory, ready_after, refuses, then_tells}
+use Rattle.iot_exchange.proofs.RunningLaws.{lent_run, none_meant}
 use Rattle.iot_exchange.proofs.TransactionsLaws.{none_said, stepped_said}
-use Rattle.iot_exchange.proofs.YieldingLaws.{aloud, steps_halted, steps_said}
+use Rattle.iot_exchange.proofs.YieldingLaws.{aloud, aloud_by}
 use Rattle.iot_exchange.proofs.transactions.step_aloud.Goals as goal
 
 pub returns-in_default : goal.returns-in_default
@@ -16,8 +14,8 @@ returns-in_default g c scripts =
 
 pub returns-in_err-steps : goal.returns-in_err-steps
 returns-in_err-steps g c scripts =
-    steps_halted c.args.which c.args.most (sym c.meant.ensures ∙ c.in-Some.is) c.in_err-steps.was c.from_residual-in_err-steps.ensures.1
-    (c.steps.ensures scripts)
+    aloud_by c.args.which c.args.most (sym c.meant.ensures ∙ c.in-Some.is)
+    (hands_on c.in_err-steps.was c.from_residual-in_err-steps.ensures.1 (c.steps.ensures scripts))
 
 pub run-requires : goal.run-requires
 run-requires g c = (ready_after c.in_ok-steps.was (c.steps.ensures _) c.requires.stands).ready.alive
@@ -27,20 +25,20 @@ at_end-requires g c = (ready_after c.in_ok-steps.was (c.steps.ensures _) c.requi
 
 pub returns-in_ok-say_step-in-Some-run : goal.returns-in_ok-say_step-in-Some-run
 returns-in_ok-say_step-in-Some-run g c scripts =
-    steps_said c.args.which c.args.most (sym c.meant.ensures ∙ c.in-Some.is) c.in_ok-steps.was (c.steps.ensures scripts)
-    (λ names at pair here.
+    aloud_by c.args.which c.args.most (sym c.meant.ensures ∙ c.in-Some.is)
+    (then_tells c.in_ok-steps.was (c.steps.ensures scripts) (λ names at pair here.
     stepped_said here.client.is c.in-Some.number c.steps.new.out c.say_step.new.out _
-    (sym c.run.ensures.running ∙ ap (λ o. option_map transaction (option_copied o)) c.in-Some-run.is)
+    (lent_run c.run.ensures.running c.in-Some-run.is)
     (c.in_ok-say_step-in-Some-run.ensures ∙ (λ i. c.steps.new.out
     ++ step_line (transaction_name (c.transaction-transaction.ensures i).client (c.transaction-transaction.ensures i).number)
-    (c.len-acts.ensures i) (place_said (c.at_end.ensures i) (c.len-acts.ensures i)))))
+    (c.len-acts.ensures i) (place_said (c.at_end.ensures i) (c.len-acts.ensures i))))))
 
 pub returns-in-None : goal.returns-in-None
 returns-in-None g c scripts =
-    steps_said c.args.which c.args.most (sym c.meant.ensures ∙ c.in-Some.is) c.in_ok-steps.was (c.steps.ensures scripts)
-    (λ names at pair here.
+    aloud_by c.args.which c.args.most (sym c.meant.ensures ∙ c.in-Some.is)
+    (then_tells c.in_ok-steps.was (c.steps.ensures scripts) (λ names at pair here.
     none_said here.client.is c.in-Some.number c.steps.new.out c.steps.new.out _
-    (sym c.run.ensures.running ∙ ap (λ o. option_map transaction (option_copied o)) c.in-None.is) refl)
+    (lent_run c.run.ensures.running c.in-None.is) refl))
 
 pub returns-in_err-say_step-in-Some-run : goal.returns-in_err-say_step-in-Some-run
 returns-in_err-say_step-in-Some-run g c scripts = no_memory c.from_residual-in_err-say_step-in-Some-run.ensures.1 (c.steps.ensures scripts).disks

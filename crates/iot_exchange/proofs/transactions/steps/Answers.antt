@@ -1,8 +1,5 @@
-use Rattle.iot_exchange.proofs.DoesLaws.{none_yet, one_more, last_round, halted_round, all_rounds, ready_after}
+use Rattle.iot_exchange.proofs.DoesLaws.{one_more, last_round, halted_round, all_rounds, ready_after}
 use Rattle.iot_exchange.proofs.transactions.steps.Goals as goal
-
-pub steps-init : goal.steps-init
-steps-init g c = ((λ scripts. none_yet), c.requires)
 
 pub returns-in_err-step : goal.returns-in_err-step
 returns-in_err-step g c scripts =
