@@ -1,9 +1,10 @@
 -- What each image of the server's disks begins with.
-use Rattle.iot_world.proofs.Common.{◌≡◌, ◌||◌, Bool, true, false, List, Option, Some, None, refl, sym, ap, subst, ◌∙◌, ℕ}
-use Rattle.iot_world.specs.Prelude.{Medium, Disks, Image, placed, on_both, Commit, DiskGoesOn, EachGoesOn}
+use Rattle.iot_world.proofs.Common.{◌||◌, Bool, true, false, List, Some, None, refl, ℕ}
+use Rattle.iot_world.specs.Prelude.{Medium, Image, placed, on_both, Commit, DiskGoesOn, EachGoesOn, ServerNode, HasPlaces, disk_of}
+use Rattle.iot_world.proofs.PlacesLaws.{places_have}
 use Rattle.iot_judging.specs.Lists.{state_of}
 use Rattle.iot_server_node.specs.Disks.{MayLeave}
-use Rattle.iot_world.specs.Disks.{DiskBegins, ServerBegins}
+use Rattle.iot_world.specs.Disks.{ServerBegins}
 
 -- an image of the first disk, and one of the last
 abbrev pub pair_of : (one other : List ℕ) → Image
@@ -22,7 +23,7 @@ module _ {D : Type 0} (medium : Medium D) where
   leaves_last first last one there = record { disk = there; backup = tt }
 
   module _ (is_image : (disk : D) → medium.may_leave disk (medium.reads disk)) (commits : List Commit) where
-    pub begins_placed : (promoted : Bool) (first last : D) → EachGoesOn (on_both medium) (state_of commits) (placed promoted first last)
+    begins_placed : (promoted : Bool) (first last : D) → EachGoesOn (on_both medium) (state_of commits) (placed promoted first last)
         → ServerBegins medium promoted commits first last
     begins_placed false first last it = record {
       of_last = record {
@@ -42,10 +43,10 @@ module _ {D : Type 0} (medium : Medium D) where
     }
 
     -- of those that a server has
-    pub begins_there : (disks : Option (Disks D)) (promoted : Bool) (first last : D) → disks ≡ Some (placed promoted first last)
-        → DiskGoesOn (on_both medium) (state_of commits) disks → ServerBegins medium promoted commits first last
-    begins_there disks promoted first last is begins =
-        begins_placed promoted first last (subst (DiskGoesOn (on_both medium) (state_of commits)) is begins)
+    pub begins_there : (server : ServerNode D) (it : HasPlaces server) → DiskGoesOn (on_both medium) (state_of commits) (disk_of server)
+        → ServerBegins medium it.placed.promoted commits it.placed.first it.placed.last
+    begins_there server it begins =
+        begins_placed it.placed.promoted it.placed.first it.placed.last (rw (places_have medium server it) at begins)
 
   -- also if the first may have been given up besides
   pub begins_or : (commits : List Commit) (promoted or : Bool) (first last : D) → ServerBegins medium promoted commits first last

@@ -1,18 +1,19 @@
 -- The disks of a world, from one call to the next.
-use Rattle.iot_world.proofs.Common.{◌≡◌, ℕ, ◌+◌, ◌<◌, Bool, true, List, [], ◌∷◌, ◌++◌, length, Option, Some, None, slice_set, inl, refl}
-use Rattle.iot_world.proofs.Common.{sym, ap, ◌∙◌, arith, append_assoc, slice_index_or, subst, length-append, length-set, commits_same}
+use Rattle.std.proofs.lemmas.Option.{same_Some}
+use Rattle.iot_world.proofs.Common.{◌≡◌, ℕ, zero, suc, ◌+◌, ◌<◌, Bool, true, List, [], ◌∷◌, ◌++◌, length, Option, Some, None, slice_set, inl, refl}
+use Rattle.iot_world.proofs.Common.{sym, ap, ◌∙◌, arith, append_assoc, slice_get, slice_index_or, subst, length-append, length-set}
 use Rattle.iot_world.proofs.Common.{with_first, with_clients, LaptopHasDisk, AreLast, UnlessArmed, KeepsNode, Each, KeepsDisks}
-use Rattle.iot_world.proofs.Common.{SameArms, IsUnarmed, StandsForSome, all_set, false, ◌≤◌}
-use Rattle.iot_world.specs.Prelude.{AllByRecursion, IsSome, is_some, Result, Ok, Err, IfErr, Vec, Global, Medium, KeepsDisk, disk_in}
-use Rattle.iot_world.specs.Prelude.{Laptop, disk_of, is_promoted, KeepsBeside, KeepsCommits, HasPlaces, ServerNode, World}
-use Rattle.iot_world.specs.Prelude.{DeclaredScript, on_both}
-use Rattle.iot_world.specs.World.{StandsFor}
-use Rattle.iot_world.proofs.PlacesLaws.{ServerFollows, has_places, kept_server, places_kept, same_server, server_placed}
-use Rattle.iot_world.proofs.PlacesLaws.{stays_promoted}
-use Rattle.iot_world.proofs.ListLaws.{looked_up, each_same, each_put}
+use Rattle.iot_world.proofs.Common.{SameArms, IsUnarmed, StandsForSome, all_set, false, ◌≤◌, MakesStep, disks_of, OnOk, commits_same}
+use Rattle.iot_world.specs.Prelude.{AllByRecursion, is_some, Result, Ok, Err, IfErr, Vec, Global, Medium, KeepsDisk, disk_in}
+use Rattle.iot_world.specs.Prelude.{Laptop, disk_of, is_promoted, KeepsBeside, KeepsCommits, HasPlaces, ServerNode, World, Machine, Call}
+use Rattle.iot_world.specs.Prelude.{on_both}
+use Rattle.iot_world.specs.Disks.{HasEnds}
+use Rattle.iot_world.specs.World.{LeavesDisks}
+use Rattle.iot_world.proofs.PlacesLaws.{ServerFollows, has_places, kept_server, places_list, promoted_is, same_server, server_placed}
+use Rattle.iot_world.proofs.ListLaws.{looked_up, all_split}
 
 -- what is so of any answer is so unless a disk was armed
-pub unless_armed : {T E : Type 0} (arms : Bool) (r : Result T E) (P : Type 0) → P → UnlessArmed arms r P
+unless_armed : {T E : Type 0} (arms : Bool) (r : Result T E) (P : Type 0) → P → UnlessArmed arms r P
 unless_armed true (Ok done) P p = tt
 unless_armed arms r P p = p
 
@@ -33,195 +34,173 @@ pub pushed_with : {D : Type 0} (laptops : List (Laptop D)) (laptop : Laptop D) (
 pushed_with [] laptop spare = refl
 pushed_with (l ∷ ls) laptop spare = ap (with_first (disk_in l)) (pushed_with ls laptop spare)
 
--- ---- none was armed
-
 module _ {D : Type 0} (medium : Medium D) where
+  -- ---- those between the server's two, of which none was armed
+
   pub unarmed_same : (disks : List D) → Each (IsUnarmed medium) disks disks
-  unarmed_same = each_same (IsUnarmed medium) (λ disk. record { arms = refl; faults = inl refl })
+  unarmed_same [] = tt
+  unarmed_same (disk ∷ disks) = (record { arms = refl; faults = inl refl }, unarmed_same disks)
 
-  -- a node with this disk had that one: what holds of those behind them holds with them
-  abbrev pub Follows : (old new : Option D) → Type 0
-  Follows old new =
-      (xs ys : List D) → Each (IsUnarmed medium) xs ys → Each (IsUnarmed medium) (with_first old xs) (with_first new ys)
+  -- with the same disk before them, or with that which a node had and kept
+  first_same : (one : Option D) (xs ys : List D) → Each (IsUnarmed medium) xs ys
+      → Each (IsUnarmed medium) (with_first one xs) (with_first one ys)
+  first_same None xs ys all = all
+  first_same (Some disk) xs ys all = (record { arms = refl; faults = inl refl }, all)
 
-  pub kept_follows : (old new : Option D) → KeepsDisk medium old new → Follows old new
-  kept_follows old new keeps = λ xs ys all. rw (keeps.old_has, keeps.new_has) (record { arms = keeps.arms; faults = keeps.faults }, all)
+  pub first_kept : (old new : Option D) (xs ys : List D) → KeepsDisk medium old new → Each (IsUnarmed medium) xs ys
+      → Each (IsUnarmed medium) (with_first old xs) (with_first new ys)
+  first_kept old new xs ys keeps all = rw (keeps.old_has, keeps.new_has) (record { arms = keeps.arms; faults = keeps.faults }, all)
 
-  pub here_follows : (one : Option D) → Follows one one
-  here_follows None = λ xs ys all. all
-  here_follows (Some disk) = λ xs ys all. (record { arms = refl; faults = inl refl }, all)
+  -- behind the same clients, or with another one at a place
+  pub clients_same : (laptops : List (Laptop D)) (xs ys : List D) → Each (IsUnarmed medium) xs ys
+      → Each (IsUnarmed medium) (with_clients laptops xs) (with_clients laptops ys)
+  clients_same [] xs ys all = all
+  clients_same (l ∷ ls) xs ys all = first_same (disk_in l) _ _ (clients_same ls xs ys all)
 
-  pub same_follows : (old new : Option D) → new ≡ old → Follows old new
-  same_follows old new same = rw same (here_follows old)
+  clients_put : (laptops : List (Laptop D)) (c : ℕ) (was now : Laptop D) (spare : List D) → slice_get laptops c ≡ Some was
+      → KeepsDisk medium (disk_in was) (disk_in now)
+      → Each (IsUnarmed medium) (with_clients laptops spare) (with_clients (slice_set laptops c now) spare)
+  clients_put [] c was now spare get keeps = absurd cc
+  clients_put (l ∷ ls) zero was now spare get keeps =
+      first_kept (disk_in l) (disk_in now) _ _ (rw (same_Some l was get) keeps) (unarmed_same (with_clients ls spare))
+  clients_put (l ∷ ls) (suc c) was now spare get keeps = first_same (disk_in l) _ _ (clients_put ls c was now spare get keeps)
 
-  abbrev ClientFollows : (was now : Laptop D) → Type 0
-  ClientFollows was now = Follows (disk_in was) (disk_in now)
-
-  -- the same clients
-  pub same_clients : (laptops : List (Laptop D)) → Each ClientFollows laptops laptops
-  same_clients = each_same ClientFollows (λ one. here_follows (disk_in one))
-
-  pub clients_follow : (laptops others : List (Laptop D)) (xs ys : List D) → Each ClientFollows laptops others
-      → Each (IsUnarmed medium) xs ys → Each (IsUnarmed medium) (with_clients laptops xs) (with_clients others ys)
-  clients_follow [] [] xs ys each all = all
-  clients_follow (l ∷ ls) (o ∷ os) xs ys each all = each.0 _ _ (clients_follow ls os xs ys each.1 all)
-  clients_follow ls os xs ys each all = absurd each
+  -- ---- all of them
 
   -- the server has its disks where they were, they have lost no commit, and its backup was not promoted, unless it may have been
   pub record ServerKeeps (turns : Bool) (old new : ServerNode D) : Type 0 where
     pub follows : ServerFollows medium old new
-    pub places : HasPlaces new
     pub commits : KeepsCommits medium old new
     pub stays : turns ≡ false → is_promoted new ≡ is_promoted old
 
-  -- so it is of a world with these
-  pub arms_with : {joins : ℕ} {turns : Bool} (old : World D) (server : ServerNode D) (clients : Vec (Laptop D) Global)
-      (scripts : Vec DeclaredScript Global) → ServerKeeps turns old.server server
-      → Each ClientFollows old.clients.items clients.items
-      → SameArms medium joins turns old (record old { server = server; clients = clients; scripts = scripts })
-  arms_with old server clients scripts keeps each =
-      let middle = clients_follow old.clients.items clients.items _ _ each (unarmed_same old.spare.items) in
-      let it = keeps.follows in
-      record {
-        each = record {
-          was = record {
-            first = it.first;
-            last = it.last;
-            others = with_clients old.clients.items old.spare.items;
-            is = it.was (with_clients old.clients.items old.spare.items);
-          };
-          now = record {
-            first = it.new_first;
-            last = it.new_last;
-            others = with_clients clients.items old.spare.items;
-            is = it.now (with_clients clients.items old.spare.items);
-          };
-          server = it.unarmed;
-          each = middle;
-        };
-        spare = omega arith;
-        places = keeps.places;
-        commits = keeps.commits;
-        stays = keeps.stays;
-      }
+  abbrev ends : (world : World D) → HasPlaces world.server → HasEnds (disks_of world)
+  ends world it = record {
+    first = it.placed.first;
+    last = it.placed.last;
+    others = with_clients world.clients.items world.spare.items;
+    is = places_list medium world.server it (with_clients world.clients.items world.spare.items);
+  }
+
+  -- so it is of a world with these, and with the disks between them
+  pub arms_with : {joins : ℕ} {turns : Bool} (old new : World D) → ServerKeeps turns old.server new.server
+      → Each (IsUnarmed medium) (with_clients old.clients.items old.spare.items) (with_clients new.clients.items new.spare.items)
+      → length old.spare.items ≤ length new.spare.items + joins → SameArms medium joins turns old new
+  arms_with old new keeps between few = record {
+    each = record {
+      was = ends old keeps.follows.was;
+      now = ends new keeps.follows.now;
+      server = keeps.follows.unarmed;
+      each = between;
+    };
+    spare = few;
+    places = keeps.follows.now;
+    commits = keeps.commits;
+    stays = keeps.stays;
+  }
+
+  pub stands_placed : (world : World D) → StandsForSome medium world → HasPlaces world.server
+  stands_placed world some =
+      has_places medium world.server some.machine.promoted some.machine.beside
+      (server_placed medium world.server some.machine.promoted some.machine.beside some.stands.beside)
 
   module _ (old : World D) (some : StandsForSome medium old) where
-    abbrev here : StandsFor medium old some.machine
-    here = some.stands
-
     -- the server was asked something that promotes nothing
     pub server_keeps : (server : ServerNode D) → KeepsBeside medium old.server server
         → KeepsDisk (on_both medium) (disk_of old.server) (disk_of server) → KeepsCommits medium old.server server
         → ServerKeeps false old.server server
     server_keeps server kept keeps commits = record {
-      follows = kept_server medium old.server server some.machine.promoted some.machine.beside here.beside kept keeps;
-      places =
-          places_kept medium old.server server kept
-          (has_places medium old.server some.machine.promoted some.machine.beside
-          (server_placed medium old.server some.machine.promoted some.machine.beside here.beside));
+      follows = kept_server medium old.server server (stands_placed old some) kept keeps;
       commits = commits;
-      stays = λ no. stays_promoted medium old.server server some.machine.promoted some.machine.beside here.beside kept;
+      stays = λ no.
+          promoted_is medium server some.machine.promoted some.machine.beside (kept _ _ some.stands.beside)
+          ∙ sym (promoted_is medium old.server some.machine.promoted some.machine.beside some.stands.beside);
     }
 
     -- or nothing
     pub server_same : {turns : Bool} → ServerKeeps turns old.server old.server
     server_same = record {
-      follows = same_server medium old.server some.machine.promoted some.machine.beside here.beside;
-      places =
-          has_places medium old.server some.machine.promoted some.machine.beside
-          (server_placed medium old.server some.machine.promoted some.machine.beside here.beside);
+      follows = same_server medium old.server (stands_placed old some);
       commits = commits_same medium old.server old.server refl;
       stays = λ no. refl;
     }
 
-    -- the server has stayed, and so have the clients
-    pub arms_same : {joins : ℕ} {turns : Bool} (clients : Vec (Laptop D) Global) (scripts : Vec DeclaredScript Global)
-        → clients.items ≡ old.clients.items → SameArms medium joins turns old (record old { clients = clients; scripts = scripts })
-    arms_same clients scripts same =
-        arms_with old old.server clients scripts server_same (rw same (same_clients old.clients.items))
+  -- ---- what an event leaves
 
-  -- another client stands at a place
-  module _ (old : World D) (clients : Vec (Laptop D) Global) (c : ℕ) (was now : Laptop D) (inside : c < length old.clients.items)
-      (value : was ≡ slice_index_or old.clients.items c was) (put : clients.items ≡ slice_set old.clients.items c now) where
-    -- each node has its disk still, if that one has
-    pub put_keeps : (LaptopHasDisk was → LaptopHasDisk now) → KeepsDisks old (record old { clients = clients })
-    put_keeps then_ = record {
-      has = λ has. record {
-        server = has.server;
+  -- another client stands at a place, and the server promoted nothing
+  module _ (old : World D) (server : ServerNode D) (clients : Vec (Laptop D) Global) (c : ℕ) (was now : Laptop D)
+      (inside : c < length old.clients.items) (value : was ≡ slice_index_or old.clients.items c was)
+      (put : clients.items ≡ slice_set old.clients.items c now) (keeps : ServerKeeps false old.server server) where
+    abbrev other : World D
+    other = record old { server = server; clients = clients }
+
+    has_still : (LaptopHasDisk was → LaptopHasDisk now) → KeepsDisks old other
+    has_still then_ = record {
+      has = λ had. record {
+        server = keeps.follows.now;
         clients = rw put (all_set LaptopHasDisk old.clients.items c now was
-            (λ had. then_ (subst (λ (one : Laptop _). LaptopHasDisk one) (sym value) had)) has.clients);
-        room = omega (arith, has.room, ap length put, length-set old.clients.items c now);
+            (λ had. then_ (subst (λ (one : Laptop _). LaptopHasDisk one) (sym value) had)) had.clients);
+        room = omega (arith, had.room, ap length put, length-set old.clients.items c now);
       };
       spare = last_here old.spare.items;
     }
 
-    -- the server may have changed with it
-    pub pair_keeps : (server : ServerNode D) → KeepsBeside medium old.server server → (LaptopHasDisk was → LaptopHasDisk now)
-        → KeepsDisks old (record old { server = server; clients = clients })
-    pair_keeps server kept then_ =
-        let keeps = put_keeps then_ in
-        record {
-          has = λ had. let has = keeps.has had in record {
-            server = places_kept medium old.server server kept had.server;
-            clients = has.clients;
-            room = has.room;
-          };
-          spare = keeps.spare;
-        }
+    kept_still : KeepsDisk medium (disk_in was) (disk_in now) → KeepsDisks old other × SameArms medium 0 false old other
+    kept_still kept = (
+      has_still (λ had. ap is_some kept.new_has),
+      arms_with old other keeps (rw put (clients_put old.clients.items c was now old.spare.items (looked_up _ _ _ _ refl inside value) kept))
+          (omega arith),
+    )
 
-    -- none was armed, with the server as it was, or another one
-    pub pair_with : (server : ServerNode D) → ServerKeeps false old.server server → Follows (disk_in was) (disk_in now)
-        → SameArms medium 0 false old (record old { server = server; clients = clients })
-    pair_with server keeps its_own =
-        arms_with old server clients old.scripts keeps
-        (rw put (each_put ClientFollows (λ one. here_follows (disk_in one)) old.clients.items c was now
-        (looked_up _ _ _ _ refl inside value) its_own))
+    pub client_leaves : {T E : Type 0} (arms : Bool) (r : Result T E) → KeepsNode medium arms r was now
+        → LeavesDisks medium arms 0 false r old other
+    client_leaves true (Ok done) then_ = record { kept = has_still then_; same = tt }
+    client_leaves arms r kept = let it = kept_still kept in record { kept = it.0; same = it.1 }
 
-    pub client_with : StandsForSome medium old → Follows (disk_in was) (disk_in now)
-        → SameArms medium 0 false old (record old { clients = clients })
-    client_with some = pair_with old.server (server_same old some)
-
-  -- only the server has changed; or it has armed its disk, unless there was a fault
+  -- only the server has changed
   module _ (old : World D) (server : ServerNode D) where
-    pub server_has : HasPlaces server → KeepsDisks old (record old { server = server })
-    server_has there = record {
+    has_places_still : HasPlaces server → KeepsDisks old (record old { server = server })
+    has_places_still there = record {
       has = λ had. record { server = there; clients = had.clients; room = had.room };
       spare = last_here old.spare.items;
     }
 
-    pub server_kept : KeepsBeside medium old.server server → KeepsDisks old (record old { server = server })
-    server_kept kept = record {
-      has = λ had. record {
-        server = places_kept medium old.server server kept had.server;
-        clients = had.clients;
-        room = had.room;
-      };
-      spare = last_here old.spare.items;
+    pub server_leaves : {T E : Type 0} {arms turns : Bool} (r : Result T E) → ServerKeeps turns old.server server
+        → LeavesDisks medium arms 0 turns r old (record old { server = server })
+    server_leaves {arms = arms} {turns = turns} r keeps = record {
+      kept = has_places_still keeps.follows.now;
+      same = unless_armed arms r _
+          (arms_with {joins = 0} {turns = turns} old (record old { server = server }) keeps
+          (unarmed_same (with_clients old.clients.items old.spare.items)) (omega arith));
     }
 
-    pub server_with : {turns : Bool} → ServerKeeps turns old.server server → SameArms medium 0 turns old (record old { server = server })
-    server_with keeps = arms_with old server old.clients old.scripts keeps (same_clients old.clients.items)
+    -- it has armed a disk, unless there was a fault
+    pub armed_leaves : {T E A : Type 0} (r : Result T E) (call : Call Machine A) (x y : List ℕ) (a : A) → StandsForSome medium old
+        → OnOk r (MakesStep medium call old (record old { server = server }) x y a) → IfErr r (λ _. server ≡ old.server)
+        → LeavesDisks medium true 0 false r old (record old { server = server })
+    armed_leaves (Ok done) call x y a some step same =
+        let it = step.step some.machine some.stands in
+        record {
+          kept = has_places_still (stands_placed (record old { server = server }) (record { machine = it.1; stands = it.4 }));
+          same = tt;
+        }
+    armed_leaves (Err fault) call x y a some step same =
+        server_leaves (Err fault) (subst (ServerKeeps false old.server) (sym same) (server_same old some))
 
-    pub server_arms : {T E : Type 0} (r : Result T E) → StandsForSome medium old → IfErr r (λ _. server ≡ old.server)
-        → UnlessArmed true r (SameArms medium 0 false old (record old { server = server }))
-    server_arms (Ok done) some same = tt
-    server_arms (Err fault) some same =
-        server_with (subst (ServerKeeps false old.server) (sym same) (server_same old some))
-
-  -- ---- what a call leaves of a node's disk
-
-  pub now_has : (old new : Option D) → KeepsDisk medium old new → IsSome new
-  now_has old new keeps = ap is_some keeps.new_has
-
-  pub node_has : {T E : Type 0} (arms : Bool) (r : Result T E) (old new : Laptop D) → KeepsNode medium arms r old new → LaptopHasDisk old
-      → LaptopHasDisk new
-  node_has true (Ok done) old new keeps = keeps
-  node_has arms r old new keeps = λ had. now_has (disk_in old) (disk_in new) keeps
-
-  pub node_arms : {T E : Type 0} (arms : Bool) (r : Result T E) (was laptop : Laptop D) (P : Type 0) → KeepsNode medium arms r was laptop
-      → (Follows (disk_in was) (disk_in laptop) → P) → UnlessArmed arms r P
-  node_arms true (Ok done) was laptop P keeps then_ = tt
-  node_arms arms r was laptop P keeps then_ = then_ (kept_follows (disk_in was) (disk_in laptop) keeps)
+  -- nothing was done to a node
+  pub nothing_leaves : {T E : Type 0} {arms turns : Bool} {joins : ℕ} (r : Result T E) (old new : World D) → StandsForSome medium old
+      → new.server ≡ old.server → new.clients.items ≡ old.clients.items → new.spare ≡ old.spare
+      → LeavesDisks medium arms joins turns r old new
+  nothing_leaves {arms = arms} {turns = turns} {joins = joins} r old new some server clients spare =
+      let few : length old.spare.items ≤ length new.spare.items + joins = rw spare (omega arith) in
+      record {
+        kept = record {
+          has = λ had. record { server = rw server had.server; clients = rw clients had.clients; room = rw (clients, spare) had.room };
+          spare = rw spare (last_here old.spare.items);
+        };
+        same = unless_armed arms r _
+            (arms_with {joins = joins} {turns = turns} old new (rw server (server_same old some))
+            (rw (clients, spare) (unarmed_same (with_clients old.clients.items old.spare.items))) few);
+      }
 
 -- ---- the disks that a world gives back
 
@@ -231,16 +210,10 @@ pub record AreLeft {D : Type 0} (first laptops : List (Laptop D)) (before disks 
   pub has : AllByRecursion LaptopHasDisk laptops
   pub room : length laptops + len + 2 ≤ capacity
 
-has_front : {D : Type 0} (laptops : List (Laptop D)) (laptop : Laptop D) → AllByRecursion LaptopHasDisk (laptops ++ laptop ∷ [])
-    → AllByRecursion LaptopHasDisk laptops × LaptopHasDisk laptop
-has_front [] laptop all = (tt, all.0)
-has_front (l ∷ ls) laptop all = let rest = has_front ls laptop all.1 in ((all.0, rest.0), rest.1)
-
 -- the last one has a disk
 pub last_has : {D : Type 0} (laptops : List (Laptop D)) (laptop : Laptop D) (all : List (Laptop D))
     → all ≡ laptops ++ laptop ∷ [] → AllByRecursion LaptopHasDisk all → LaptopHasDisk laptop
-last_has laptops laptop all split has =
-    (has_front laptops laptop (rw split at has)).1
+last_has laptops laptop all split has = (all_split LaptopHasDisk laptops laptop (rw split at has)).1
 
 -- it was put before the others
 pub left_one : {D : Type 0} (first all laptops : List (Laptop D)) (laptop : Laptop D) (before disks new : List D) (disk : D)
@@ -248,18 +221,7 @@ pub left_one : {D : Type 0} (first all laptops : List (Laptop D)) (laptop : Lapt
     → disk_in laptop ≡ Some disk → new ≡ disk ∷ disks → len' ≡ len + 1 → capacity' ≡ capacity
     → AreLeft first laptops before new len' capacity'
 left_one first all laptops laptop before disks new disk len len' capacity capacity' left split has put more same = record {
-  same =
-      ap (with_clients laptops) put
-      ∙ ap (λ (o : Option _). with_clients laptops (with_first o disks)) (sym has)
-      ∙ sym (pushed_with laptops laptop disks)
-      ∙ ap (λ (ls : List (Laptop _)). with_clients ls disks) (sym split)
-      ∙ left.same;
-  has = (has_front laptops laptop (rw split at left.has)).0;
+  same = rw put (sym (rw has at (pushed_with laptops laptop disks)) ∙ rw split at left.same);
+  has = (all_split LaptopHasDisk laptops laptop (rw split at left.has)).0;
   room = omega (arith, left.room, more, same, ap length split, length-append laptops (laptop ∷ []));
 }
-
--- when no laptop is left
-pub all_left : {D : Type 0} (first laptops : List (Laptop D)) (before disks : List D) (len capacity : ℕ) → laptops ≡ []
-    → AreLeft first laptops before disks len capacity → disks ≡ with_clients first before
-all_left first laptops before disks len capacity none left =
-    ap (λ (ls : List (Laptop _)). with_clients ls disks) (sym none) ∙ left.same

@@ -2,31 +2,30 @@
 -- are spare.
 use Rattle.std.proofs.lemmas.Option.{same_Some}
 use Rattle.iot_world.proofs.Common.{◌≡◌, ◌+◌, ℕ, List, [], ◌∷◌, ◌++◌, length, map, Option, Some, None, inl, inr, refl, sym, ap, subst, ◌∙◌}
-use Rattle.iot_world.proofs.Common.{arith, length-append, map-append, lasts, has_disk, node_stands, IsListed, Holds, IsKept, KeepsClient}
-use Rattle.iot_world.proofs.Common.{DisksHold, StandsForSome, KeepsNode, Each, StandsFor, Opens, KeepsDisks, with_clients}
+use Rattle.iot_world.proofs.Common.{arith, length-append, map-append, lasts, node_stands, IsListed, Holds, IsKept, KeepsClient}
+use Rattle.iot_world.proofs.Common.{DisksHold, KeepsNode, Each, StandsFor, Opens, KeepsDisks, with_clients}
 use Rattle.iot_world.proofs.Common.{disks_of, length-map, with_first, running_kept, state_kept, stands_go_on, own_goes_on, image_goes_on}
 use Rattle.iot_world.proofs.Common.{HoldsList, SameArms, Bool, true, false, ◌⊎◌, ◌||◌}
-use Rattle.iot_world.specs.Disks.{CountOn, CountsServer, DiskBegins, ServerBegins, counts_between, other_of, own_of, with_ends}
-use Rattle.iot_world.specs.Holding.{HoldBoth, HoldTogether, HoldsServer, StandTogether}
-use Rattle.iot_world.specs.Prelude.{AreImages, AreTurning, Disks, Image, LacksCommit, is_promoted, on_both, paired, placed}
+use Rattle.iot_world.specs.Disks.{CountOn, ServerBegins, other_of, own_of, with_ends}
+use Rattle.iot_world.specs.Holding.{HoldTogether, HoldsServer}
+use Rattle.iot_world.specs.Prelude.{Disks, Image, LacksCommit, on_both, paired, placed}
 use Rattle.iot_server_node.specs.Disks.{MayLeave}
-use Rattle.iot_server_node.specs.Keepers.{disks_in}
-use Rattle.iot_server_node.specs.declared.keeper.ServerKeeper.{ServerKeeper}
-use Rattle.iot_world.proofs.BeginsLaws.{begins_or, begins_there, leave_both, leaves_last, lone, pair_of}
-use Rattle.iot_world.proofs.PlacesLaws.{ServerPlaced, ends_as, promoted_is, server_list, server_placed}
+use Rattle.iot_world.proofs.BeginsLaws.{begins_there, leave_both, leaves_last, lone, pair_of}
+use Rattle.iot_world.proofs.PlacesLaws.{ServerPlaced, ends_as, has_places, places_list, promoted_at, promoted_is, server_list, server_placed}
+use Rattle.std.proofs.lemmas.Bool.{or_parts}
+use Rattle.iot_disk.specs.Disk.{Storing}
 use Rattle.iot_world.specs.Prelude.{IsPlaced}
 use Rattle.iot_server_node.specs.Servers.{IsOneMore}
 use Rattle.iot_world.specs.Prelude.{is_some, true, Result, Ok, Err, IfErr, OnOk, StandFor, State, Medium, Call, Declared, ClientState}
-use Rattle.iot_world.specs.Prelude.{names_in, no_text, Machine, Commit, Node, Counts, Refines, kept_text, CountsOn, KeepsDisk, counts_on}
-use Rattle.iot_world.specs.Prelude.{Keeping, PostStands, Lasts, HoldsEither, StepsTo, Post, Up, Down, Between, lists, IsImage, HasDisk}
-use Rattle.iot_world.specs.Prelude.{HavingAnswered, ServerNode, ClientStands, StandsAnyhow, disk_in, IsClientImage, seating, Laptop, World}
-use Rattle.iot_world.specs.Prelude.{Client, Transaction, DiskGoesOn, GoesOnFrom, IsOneMoreIfAny}
+use Rattle.iot_world.specs.Prelude.{names_in, no_text, Machine, Commit, Node, Counts, Refines, kept_text, CountsOn, counts_on}
+use Rattle.iot_world.specs.Prelude.{Keeping, PostStands, HoldsEither, Post, Up, Down, Between, lists, IsImage}
+use Rattle.iot_world.specs.Prelude.{ClientStands, StandsAnyhow, disk_in, IsClientImage, seating, Laptop, World}
+use Rattle.iot_world.specs.Prelude.{Client, Transaction, GoesOnFrom, IsOneMoreIfAny}
 use Rattle.iot_judging.specs.Lists.{state_of}
 use Rattle.iot_machine.specs.Machine as machine
 use Rattle.iot_node.specs.Posts.{disk_of}
 use Rattle.iot_node.specs.Prelude.{next}
 use Rattle.iot_node.proofs.PostsLaws.{lasts_in}
-use Rattle.iot_server_node.specs.Servers as servers
 use Rattle.iot_laptop.proofs.RestartLaws.{keeps_any}
 use Rattle.iot_laptop.proofs.SeatsLaws.{seat_images}
 use Rattle.iot_world.proofs.ListLaws.{each_length, each_map, each_same_as}
@@ -87,50 +86,24 @@ state_is s m it = λ i. record {
   access = it.access i;
 }
 
--- ---- a disk
-
--- a node's disk, with what it holds and has counted
-record HasHeld {S D : Type 0} (medium : Medium D) (Is : S → List ℕ → Type 0) (node : Node S) (o : Option D) : Type 0 where
-  pub disk : D
-  pub is : o ≡ Some disk
-  pub holds : Holds Is (medium.may_leave disk) node.durable node.doubt
-  pub counts : counts_on medium disk ≡ node.counts
-
 -- ---- any node
 
-module _ {K S D : Type 0} (keeping : Keeping K S D (List ℕ)) (medium : Medium D) (Is : S → List ℕ → Type 0)
-    (means : (s : S) (image : List ℕ) (count : ℕ) → keeping.image image count s → Is s image)
-    (turns : (before s : S) (image : List ℕ) (count : ℕ) → keeping.turning image count before s → Is s image) where
-  -- its images hold what is durable, or what is in doubt
-  holds : (images : List ℕ → Type 0) (count : ℕ) (node : Node S)
-      → ((image : List ℕ) → images image → HoldsEither keeping medium count node image) → Holds Is images node.durable node.doubt
-  holds images count node each = by node.doubt refl
-    where
-      by : (doubt : Option S) → node.doubt ≡ doubt → Holds Is images node.durable doubt
-      by None is = λ image left. elim (each image left) [
-        | inl it ↦ means node.durable image count it
-        | inr it ↦ let e : Some it.0 ≡ None = sym it.1 ∙ is in absurd cc
-      ]
-      by (Some after) is = λ image left. elim (each image left) [
-        | inl it ↦ inl (means node.durable image count it)
-        | inr it ↦ inr (subst (λ (s : S). Is s image) (same_Some it.0 after (sym it.1 ∙ is)) (turns node.durable it.0 image count it.2))
-      ]
+-- if nothing is in doubt, its images hold what is durable; else that, or what is in doubt
+settled : {A S : Type 0} {T : S → Type 0} → A ⊎ ((after : S) × (None ≡ Some after) × T after) → A
+settled (inl it) = it
+settled (inr it) = absurd cc
 
+in_doubt : {A S : Type 0} {T : S → Type 0} {after : S} → A ⊎ ((other : S) × (Some after ≡ Some other) × T other) → A ⊎ T after
+in_doubt (inl it) = inl it
+in_doubt {T} {after} (inr it) = inr (subst T (sym (same_Some after it.0 it.1)) it.2)
+
+module _ {K S D I : Type 0} (keeping : Keeping K S D I) (medium : Storing D I) where
+  -- it has counted what its disk has
   counted : (says : S → S → List ℕ) (post : Post K D) (node : Node S) → PostStands keeping medium says post node
       → CountsOn medium (disk_of keeping.disk post) node.counts
   counted says (Up keeper) node here = ap (λ (c : Counts). Some c) here.counts
   counted says (Down fallen) node here = ap (λ (c : Counts). Some c) here.counts
   counted says Between node here = absurd here
-
-  has_held : (says : S → S → List ℕ) (post : Post K D) (node : Node S) → PostStands keeping medium says post node
-      → Lasts keeping medium post node → HasHeld medium Is node (disk_of keeping.disk post)
-  has_held says post node here lasting = record {
-    disk = lasting.disk;
-    is = lasting.has;
-    holds = holds (medium.may_leave lasting.disk) lasting.count node (λ image left. lasting.each.each image left);
-    counts = same_Some (counts_on medium lasting.disk) node.counts
-        (subst (λ (o : Option D). CountsOn medium o node.counts) lasting.has (counted says post node here));
-  }
 
 -- an image that is a list of so many is that list
 is_listed : (commits : List Commit) (image : List ℕ) (count : ℕ) → IsImage image count commits → IsListed commits image
@@ -142,13 +115,28 @@ is_kept m image count is = subst (λ (s : State). StandFor image s) (state_is is
 module _ {D : Type 0} (medium : Medium D) where
   -- ---- a client
 
+  -- the images of its disk are what it keeps, or what is in doubt
+  holds_client : (place count : ℕ) (node : Node ClientState) (images : List ℕ → Type 0) (doubt : Option ClientState)
+      → ((image : List ℕ) → images image → HoldsEither (seating medium place) medium count (record node { doubt = doubt }) image)
+      → Holds IsKept images node.durable doubt
+  holds_client place count node images None each = λ image left. is_kept node.durable image count (settled (each image left))
+  holds_client place count node images (Some after) each = λ image left. elim (in_doubt (each image left)) [
+    | inl it ↦ inl (is_kept node.durable image count it)
+    | inr it ↦ inr (is_kept after image (next count) it)
+  ]
+
   client_holds : (scripts : List Declared) (laptop : Laptop D) (m : machine.Client) → ClientStands medium scripts laptop m
-      → HasHeld medium IsKept m.node (disk_in laptop)
+      → (disk : D) × (disk_in laptop ≡ Some disk) × KeepsClient medium disk m × (counts_on medium disk ≡ m.node.counts)
   client_holds scripts laptop m here =
       let stands = node_stands medium scripts laptop m here in
       let seats = seating medium laptop.place in
-      has_held seats medium IsKept is_kept (λ before m image count. is_kept m image (next count)) no_text laptop.post m.node stands
-      (lasts_in seats medium no_text (λ seated n m here. seat_images medium laptop.place n seated m here) laptop.post m.node stands)
+      let it =
+      lasts_in seats medium no_text (λ seated n m here. seat_images medium laptop.place n seated m here) laptop.post m.node stands in (
+        it.disk,
+        it.has,
+        holds_client laptop.place it.count m.node (medium.may_leave it.disk) m.node.doubt (λ image left. it.each.each image left),
+        same_Some _ _ (rw it.has at (counted seats medium no_text laptop.post m.node stands)),
+      )
 
   -- ---- after a step
 
@@ -163,14 +151,6 @@ module _ {D : Type 0} (medium : Medium D) where
 
   -- ---- the server
 
-  -- what its disks have counted
-  server_counted : (names : List (List ℕ)) (post : Post (ServerKeeper D) (Disks D)) (node : Node (List Commit))
-      → PostStands (lists medium) (on_both medium) (kept_text names) post node
-      → CountsOn (on_both medium) (disk_of disks_in post) node.counts
-  server_counted names (Up keeper) node here = ap (λ (c : Counts). Some c) here.counts
-  server_counted names (Down fallen) node here = ap (λ (c : Counts). Some c) here.counts
-  server_counted names Between node here = absurd here
-
   counts_placed : (promoted : Bool) (first last : D) → counts_on (on_both medium) (placed promoted first last)
       ≡ paired (counts_on medium (own_of promoted first last)) (counts_on medium (other_of promoted first last))
   counts_placed false first last = refl
@@ -178,71 +158,42 @@ module _ {D : Type 0} (medium : Medium D) where
 
   module _ (is_image : (disk : D) → medium.may_leave disk (medium.reads disk)) (count : ℕ) (node : Node (List Commit)) where
     -- an image has the list, or is in the midst of the commit in doubt
-    abbrev Either : Image → Type 0
-    Either = HoldsEither (lists medium) (on_both medium) count node
-
-    has_list : (image : Image) → node.doubt ≡ None → Either image → AreImages image count node.durable
-    has_list image none (inl are) = are
-    has_list image none (inr it) = let e : Some it.0 ≡ None = sym it.1 ∙ none in absurd cc
+    abbrev Either : Option (List Commit) → Image → Type 0
+    Either doubt = HoldsEither (lists medium) (on_both medium) count (record node { doubt = doubt })
 
     -- if the first has a commit more, the second has it, too, or lacks it
-    stand_together : (one other : List ℕ) (longer : List Commit) → AreTurning (pair_of one other) count node.durable longer
-        → StandTogether one other node.durable longer
-    stand_together one other longer it = record {
-      first = is_listed longer one (next count) it.disk;
-      second = elim it.backup [
-        | inl lacks ↦ inr (subst (λ (n : ℕ). LacksCommit one other n node.durable longer) lacks.image.counted lacks)
-        | inr has ↦ inl (is_listed longer other (next count) has)
-      ];
-    }
-
-    hold_together : (one other : List ℕ) (after : List Commit) → node.doubt ≡ Some after → Either (pair_of one other)
+    hold_together : (one other : List ℕ) (after : List Commit) → Either (Some after) (pair_of one other)
         → HoldTogether one other node.durable after
-    hold_together one other after is (inl are) =
-        inl (is_listed node.durable one count are.disk, is_listed node.durable other count are.backup)
-    hold_together one other after is (inr it) =
-        inr (stand_together one other after
-        (subst (AreTurning (pair_of one other) count node.durable) (same_Some it.0 after (sym it.1 ∙ is)) it.2))
+    hold_together one other after there = elim (in_doubt there) [
+      | inl are ↦ inl (is_listed node.durable one count are.disk, is_listed node.durable other count are.backup)
+      | inr it ↦ inr (record {
+        first = is_listed after one (next count) it.disk;
+        second = elim it.backup [
+          | inl lacks ↦ inr (subst (λ (n : ℕ). LacksCommit one other n node.durable after) lacks.image.counted lacks)
+          | inr has ↦ inl (is_listed after other (next count) has)
+        ];
+      })
+    ]
 
-    hold_both : (first last : D) → ((image : Image) → MayLeave medium (placed false first last) image → Either image)
-        → HoldBoth (medium.may_leave first) (medium.may_leave last) node.durable node.doubt
-    hold_both first last each = by node.doubt refl
-      where
-        by : (doubt : Option (List Commit)) → node.doubt ≡ doubt
-            → HoldBoth (medium.may_leave first) (medium.may_leave last) node.durable doubt
-        by None is = (
-          λ one left.
-              let image : Image = pair_of one (medium.reads last) in
-              let left : MayLeave medium (placed false first last) image =
-              leave_both medium first last one (medium.reads last) left (is_image last) in
-              is_listed node.durable one count (has_list image is (each image left)).disk,
-          λ other left.
-              let image : Image = pair_of (medium.reads first) other in
-              let left : MayLeave medium (placed false first last) image =
-              leave_both medium first last (medium.reads first) other (is_image first) left in
-              is_listed node.durable other count (has_list image is (each image left)).backup,
-        )
-        by (Some after) is = λ one other there here.
-            hold_together one other after is (each (pair_of one other) (leave_both medium first last one other there here))
-
-    hold_last : (first last : D) → ((image : Image) → MayLeave medium (placed true first last) image → Either image)
-        → HoldsList (medium.may_leave last) node.durable node.doubt
-    hold_last first last each = by node.doubt refl
-      where
-        by : (doubt : Option (List Commit)) → node.doubt ≡ doubt → HoldsList (medium.may_leave last) node.durable doubt
-        by None is = λ one left.
-            is_listed node.durable one count (has_list (lone one) is (each (lone one) (leaves_last medium first last one left))).disk
-        by (Some after) is = λ one left. elim (each (lone one) (leaves_last medium first last one left)) [
-          | inl are ↦ inl (is_listed node.durable one count are.disk)
-          | inr it ↦ inr (is_listed after one (next count)
-              (subst (λ (commits : List Commit). IsImage one (next count) commits) (same_Some it.0 after (sym it.1 ∙ is)) it.2.disk))
-        ]
-
-    hold_server : (promoted : Bool) (first last : D)
-        → ((image : Image) → MayLeave medium (placed promoted first last) image → Either image)
-        → HoldsServer promoted (medium.may_leave first) (medium.may_leave last) node.durable node.doubt
-    hold_server false first last each = hold_both first last each
-    hold_server true first last each = hold_last first last each
+    hold_server : (promoted : Bool) (first last : D) (doubt : Option (List Commit))
+        → ((image : Image) → MayLeave medium (placed promoted first last) image → Either doubt image)
+        → HoldsServer promoted (medium.may_leave first) (medium.may_leave last) node.durable doubt
+    hold_server false first last None each = (
+      λ one left.
+          is_listed node.durable one count
+          (settled (each (pair_of one (medium.reads last)) (leave_both medium first last one _ left (is_image last)))).disk,
+      λ other left.
+          is_listed node.durable other count
+          (settled (each (pair_of (medium.reads first) other) (leave_both medium first last _ other (is_image first) left))).backup,
+    )
+    hold_server false first last (Some after) each = λ one other there here.
+        hold_together one other after (each (pair_of one other) (leave_both medium first last one other there here))
+    hold_server true first last None each = λ one left.
+        is_listed node.durable one count (settled (each (lone one) (leaves_last medium first last one left))).disk
+    hold_server true first last (Some after) each = λ one left. elim (in_doubt (each (lone one) (leaves_last medium first last one left))) [
+      | inl are ↦ inl (is_listed node.durable one count are.disk)
+      | inr it ↦ inr (is_listed after one (next count) it.disk)
+    ]
 
   -- ---- all of them
 
@@ -254,7 +205,7 @@ module _ {D : Type 0} (medium : Medium D) where
       → Each (ClientStands medium scripts) laptops ms → Each CountsClient (with_clients laptops []) ms
   clients_hold scripts [] [] all = tt
   clients_hold scripts (laptop ∷ laptops) (m ∷ ms) all =
-      let one = client_holds scripts laptop m all.0 in rw one.is ((one.holds, one.counts), clients_hold scripts laptops ms all.1)
+      let one = client_holds scripts laptop m all.0 in rw one.1 ((one.2, one.3), clients_hold scripts laptops ms all.1)
   clients_hold scripts laptops ms all = absurd all
 
   module _ (world : World D) (m : Machine) (here : StandsFor medium world m) where
@@ -267,7 +218,7 @@ module _ {D : Type 0} (medium : Medium D) where
     server_held is_image =
         let it = lasts medium (names_in m) world.server m.server m.requests here.server in
         let same : it.disk ≡ placed m.promoted two.first two.last = same_Some _ _ (sym it.has ∙ two.has) in
-        hold_server is_image it.count m.server m.promoted two.first two.last
+        hold_server is_image it.count m.server m.promoted two.first two.last m.server.doubt
         (λ image left. it.each.each image (subst (λ (disks : Disks D). MayLeave medium disks image) (sym same) left))
 
     -- and have counted this
@@ -275,7 +226,7 @@ module _ {D : Type 0} (medium : Medium D) where
         ≡ paired (counts_on medium (own_of m.promoted two.first two.last)) (counts_on medium (other_of m.promoted two.first two.last))
     both_counted =
         sym (same_Some _ _ (subst (λ (o : Option (Disks D)). CountsOn (on_both medium) o m.server.counts) two.has
-        (server_counted (names_in m) world.server.post m.server here.server.post)))
+        (counted (lists medium) (on_both medium) (kept_text (names_in m)) world.server.post m.server here.server.post)))
         ∙ counts_placed m.promoted two.first two.last
 
     abbrev theirs : List D
@@ -311,16 +262,9 @@ module _ {D : Type 0} (medium : Medium D) where
       last_handed = opens.last;
       was = opens.were ∙ ap (λ (ds : List D). with_ends opens.first opens.last ds) same.spare.split;
       aligned =
-          omega (
-            arith,
-            each_length CountsClient (theirs world m here) m.clients (held world m here),
-            same_length medium world m here,
-            here.eight,
-            opens.stands.stands.eight,
-            opens.no_clients,
-            ap length same.spare.split,
-            length-append same.spare.front world.spare.items,
-          );
+          let many = each_length CountsClient (theirs world m here) m.clients (held world m here) in
+          let long = length-append same.spare.front world.spare.items in
+          omega (arith, same_length medium world m here, here.eight, opens.stands.stands.eight, opens.no_clients, ap length same.spare.split);
     }
 
     -- and has counted that
@@ -330,22 +274,13 @@ module _ {D : Type 0} (medium : Medium D) where
 
 -- ---- what each image of the server's disks begins with
 
-neither : (one other : Bool) → (one || other) ≡ false → (one ≡ false) × (other ≡ false)
-neither true other none = absurd cc
-neither false other none = (refl, none)
-
-placed_promoted : {D : Type 0} (server : ServerNode D) (promoted : Bool) (first last : D)
-    → servers.disk_of server ≡ Some (placed promoted first last) → promoted ≡ is_promoted server
-placed_promoted server false first last has = sym (ap servers.given_up_in has)
-placed_promoted server true first last has = sym (ap servers.given_up_in has)
-
 module _ {D : Type 0} (medium : Medium D) (is_image : (disk : D) → medium.may_leave disk (medium.reads disk)) where
   -- with the machine's list
   pub world_begins : (world : World D) (m : Machine) (here : StandsFor medium world m)
       → ServerBegins medium m.promoted m.server.durable (placed_in medium world m here).first (placed_in medium world m here).last
   world_begins world m here =
-      let two = placed_in medium world m here in
-      begins_there medium is_image m.server.durable (servers.disk_of world.server) m.promoted two.first two.last two.has
+      begins_there medium is_image m.server.durable world.server
+      (has_places medium world.server m.promoted m.beside (placed_in medium world m here))
       (stands_go_on medium (names_in m) world.server m.server m.requests here.server)
 
   -- still, if memory ran out in an event, which may have given the first disk up
@@ -354,25 +289,18 @@ module _ {D : Type 0} (medium : Medium D) (is_image : (disk : D) → medium.may_
     abbrev spot : IsPlaced arms.places.disks
     spot = arms.places.placed
 
-    has : servers.disk_of new.server ≡ Some (placed spot.promoted spot.first spot.last)
-    has = arms.places.has ∙ ap (λ (disks : Disks D). Some disks) spot.is
-
-    begins_now : ServerBegins medium spot.promoted m.server.durable spot.first spot.last
-    begins_now =
-        begins_there medium is_image m.server.durable (servers.disk_of new.server) spot.promoted spot.first spot.last has
-        (arms.commits.keeps (names_in m) m.server m.requests here.server)
-
-    own_stays : (m.promoted || turns) ≡ false → spot.promoted ≡ false
-    own_stays none =
-        let both = neither m.promoted turns none in
-        placed_promoted new.server spot.promoted spot.first spot.last has
-        ∙ arms.stays both.1 ∙ promoted_is medium old.server m.promoted m.beside here.beside ∙ both.0
-
     still_begins : ServerBegins medium (m.promoted || turns) m.server.durable spot.first spot.last
-    still_begins = record {
-      of_last = begins_now.of_last;
-      of_first = λ none. begins_now.of_first (own_stays none);
-    }
+    still_begins =
+        let begins = begins_there medium is_image m.server.durable new.server arms.places
+        (arms.commits.keeps (names_in m) m.server m.requests here.server) in
+        record {
+          of_last = begins.of_last;
+          of_first = λ none.
+              let both = or_parts m.promoted turns none in
+              begins.of_first
+              (sym (promoted_at medium new.server arms.places)
+              ∙ arms.stays both.1 ∙ promoted_is medium old.server m.promoted m.beside here.beside ∙ both.0);
+        }
 
     -- at whatever ends its disks have
     pub still_begins_at : (first last : D) (others : List D) → disks_of new ≡ with_ends first last others
@@ -380,9 +308,7 @@ module _ {D : Type 0} (medium : Medium D) (is_image : (disk : D) → medium.may_
     still_begins_at first last others is =
         ends_as (λ (one other : D) (xs : List D). ServerBegins medium (m.promoted || turns) m.server.durable one other)
         spot.first spot.last first last (with_clients new.clients.items new.spare.items) others
-        (sym (server_list medium new.server spot.promoted spot.first spot.last has
-        (with_clients new.clients.items new.spare.items)) ∙ is)
-        still_begins
+        (sym (places_list medium new.server arms.places (with_clients new.clients.items new.spare.items)) ∙ is) still_begins
 
   -- so it is of a list that the images hold
   module _ (commits : List Commit) where
@@ -412,32 +338,22 @@ module _ {D : Type 0} (medium : Medium D) (is_image : (disk : D) → medium.may_
       ],
     )
 
-    both_begin : (first last : D) (doubt : Option (List Commit)) → IsOneMoreIfAny commits doubt
-        → HoldBoth (medium.may_leave first) (medium.may_leave last) commits doubt
-        → DiskBegins medium commits first × DiskBegins medium commits last
-    both_begin first last None longer holds = (
-      record { each = λ image there. listed_begins image (holds.0 image there) },
-      record { each = λ image there. listed_begins image (holds.1 image there) },
-    )
-    both_begin first last (Some after) longer holds = (
-      record {
-        each = λ image there.
-            (together_begins image (medium.reads last) after longer (holds image (medium.reads last) there (is_image last))).0;
-      },
-      record {
-        each = λ image there.
-            (together_begins (medium.reads first) image after longer (holds (medium.reads first) image (is_image first) there)).1;
-      },
-    )
-
     server_begins : (promoted : Bool) (first last : D) (doubt : Option (List Commit)) → IsOneMoreIfAny commits doubt
         → HoldsServer promoted (medium.may_leave first) (medium.may_leave last) commits doubt
         → ServerBegins medium promoted commits first last
-    server_begins false first last doubt longer holds =
-        let both = both_begin first last doubt longer holds in record { of_last = both.1; of_first = λ own. both.0 }
-    server_begins true first last doubt longer holds = record {
-      of_last = record { each = λ image there. list_begins (medium.may_leave last) doubt longer holds image there };
-      of_first = λ own. absurd cc;
+    server_begins true first last doubt longer holds =
+        record { of_last = record { each = list_begins (medium.may_leave last) doubt longer holds }; of_first = λ own. absurd cc }
+    server_begins false first last None longer holds = record {
+      of_last = record { each = list_begins (medium.may_leave last) None longer holds.1 };
+      of_first = λ own. record { each = list_begins (medium.may_leave first) None longer holds.0 };
+    }
+    server_begins false first last (Some after) longer holds = record {
+      of_last = record {
+        each = λ image there. (together_begins _ image after longer (holds (medium.reads first) image (is_image first) there)).1;
+      };
+      of_first = λ own. record {
+        each = λ image there. (together_begins image _ after longer (holds image (medium.reads last) there (is_image last))).0;
+      };
     }
 
   pub held_begins : (handed back : List D) (m : Machine) (held : DisksHold medium handed back m)

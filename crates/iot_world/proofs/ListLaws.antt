@@ -18,6 +18,11 @@ all_got P [] place x all is = absurd cc
 all_got P (y ∷ xs) zero x all is = subst P (same_Some y x is) all.0
 all_got P (y ∷ xs) (suc place) x all is = all_got P xs place x all.1 is
 
+-- of all and one more
+pub all_split : {A : Type 0} (P : A → Type 0) (xs : List A) (y : A) → AllByRecursion P (xs ++ y ∷ []) → AllByRecursion P xs × P y
+all_split P [] y all = (tt, all.0)
+all_split P (x ∷ xs) y all = let rest = all_split P xs y all.1 in ((all.0, rest.0), rest.1)
+
 -- ---- two lists
 
 module _ {W M : Type 0} (stands : W → M → Type 0) where
@@ -59,17 +64,6 @@ module _ {W M : Type 0} (stands : W → M → Type 0) where
   each_get (w' ∷ ws) (m ∷ ms) zero w e at all = subst (λ (v : W). stands v m) (same_Some w' w at) all.0
   each_get (w' ∷ ws) (m ∷ ms) (suc c) w e at all = each_get ws ms c w e at all.1
   each_get ws ms c w e at all = absurd all
-
--- what each element has with itself, a list has with itself, and with one in which another stands at a place
-module _ {W : Type 0} (goes : W → W → Type 0) (here : (w : W) → goes w w) where
-  pub each_same : (ws : List W) → Each goes ws ws
-  each_same [] = tt
-  each_same (w ∷ ws) = (here w, each_same ws)
-
-  pub each_put : (ws : List W) (c : ℕ) (was now : W) → slice_get ws c ≡ Some was → goes was now → Each goes ws (slice_set ws c now)
-  each_put [] c was now get it = tt
-  each_put (w ∷ ws) zero was now get it = (rw (same_Some w was get) it, each_same ws)
-  each_put (w ∷ ws) (suc c) was now get it = (here w, each_put ws c was now get it)
 
 -- what is so of each element at its place is so of the list in which one is set that is so at its place
 pub each_place_set : {A : Type 0} (P : ℕ → A → Type 0) (xs : List A) (c : ℕ) (x : A)

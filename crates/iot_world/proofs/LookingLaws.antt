@@ -1,25 +1,32 @@
 -- What one sees who looks in at a world is what the machine says: the list, what all nodes hold, and what a client shows.
-use Rattle.std.proofs.lemmas.List.Elements.{All-from_recursion, All-map, All-weaker}
-use Rattle.std.proofs.lemmas.Option.{get_or_from_slice_get, slice_get_within}
-use Rattle.std.specs.Prelude.{if◌then◌else◌}
-use Rattle.iot_world.proofs.Common.{◌≡◌, ℕ, ◌<◌, true, List, [], ◌∷◌, ◌++◌, length, map, Option, Some, Bor, ◌+◌, take, sym, ap, subst, ◌∙◌}
-use Rattle.iot_world.proofs.Common.{slice_get, ◌≤◌, Bool, arith, false, codes, refl, length-map, map_more, take_all, bind, asks, says}
-use Rattle.iot_world.proofs.Common.{says_this, same_name, awake_stands, fallen_stands, StandsFor, IsWorldOfSome, MakesStep, LendsServer}
-use Rattle.iot_world.specs.Prelude.{AllByRecursion, option_copied, Server, Medium, Logs, names_in, node_part, Machine, Commit, Client}
-use Rattle.iot_world.specs.Prelude.{client_in, no_client, IsListed, log_text, line, IsServerOf, ClientStands, Laptop, World, Nodes, Item}
-use Rattle.iot_world.specs.Prelude.{shown, named, Json, view, Declared, ClientState, client_data, Show, Node, Shows, Refines}
-use Rattle.iot_tree.specs.declared.labels.Label.{Label}
-use Rattle.iot_inspect.specs.Texts.{AreOf, tree_text}
-use Rattle.iot_server.specs.Servers.{state_of}
-use Rattle.iot_machine.specs.Machine as machine
-use Rattle.iot_machine.specs.Recorded.{label_of, labels_of, queue_kept}
-use Rattle.iot_laptop.specs.Laptops.{LaptopStands, IsView, is_alive, state_in}
-use Rattle.iot_world.specs.Looks.{client_names, HasTold, AddsTold, Tells}
-use Rattle.iot_world.proofs.ListLaws.{each_same_as}
-use Rattle.serde_json.specs.Data.{Data}
-use Rattle.iot_inspect.specs.Values.{live_data, down_data}
+use Rattle.iot_client.specs.Ties.{Live, disk_of as client_disk}
+use Rattle.iot_client.specs.declared.client.Client.{Client as LiveClient}
 use Rattle.iot_exchange.proofs.TransactionsLaws.{queue_are}
+use Rattle.iot_inspect.specs.Texts.{AreOf, tree_text}
+use Rattle.iot_inspect.specs.Values.{live_data}
+use Rattle.iot_kept.specs.States as kept
+use Rattle.iot_laptop.specs.Laptops.{LaptopStands, IsView, is_alive, state_in, IsLent, lent_by, disk_by, live_in}
+use Rattle.iot_machine.specs.Machine as machine
+use Rattle.iot_machine.specs.Recorded.{label_of, labels_of}
+use Rattle.iot_server.specs.Servers.{state_of}
+use Rattle.iot_standing.proofs.StatesLaws.{view_is}
+use Rattle.iot_standing.specs.Kept.{ItemsStand}
+use Rattle.iot_standing.specs.States.{RunStand}
+use Rattle.iot_tree.specs.declared.labels.Label.{Label}
+use Rattle.iot_world.proofs.Common.{None, inl, inr, lent_at, LendsClient, ClientIs, IsReady}
+use Rattle.iot_world.proofs.Common.{says_this, same_name, awake_stands, fallen_stands, StandsFor, IsWorldOfSome, MakesStep}
+use Rattle.iot_world.proofs.Common.{slice_get, ◌≤◌, arith, false, codes, refl, length-map, map_more, take_all, bind, asks, says}
+use Rattle.iot_world.proofs.Common.{◌≡◌, ℕ, ◌<◌, true, List, [], ◌∷◌, ◌++◌, length, map, Option, Some, ◌+◌, take, sym, ap, subst, ◌∙◌}
+use Rattle.iot_world.proofs.ListLaws.{each_same_as}
 use Rattle.iot_world.proofs.WorldsLaws.{same_length, inside_here, client_here}
+use Rattle.iot_world.specs.Looks.{client_names, HasTold, AddsTold, Tells}
+use Rattle.iot_world.specs.Prelude.{AllByRecursion, Server, Medium, Logs, names_in, node_part, Machine, Commit, Client}
+use Rattle.iot_world.specs.Prelude.{Up, disk_in, Seated}
+use Rattle.iot_world.specs.Prelude.{client_in, no_client, IsListed, log_text, line, IsServerOf, ClientStands, Laptop, World, Nodes, Item}
+use Rattle.iot_world.specs.Prelude.{shown, named, Json, view, Declared, ClientState, client_data, Show, Node, Shows, Refines, IfSome, Post}
+use Rattle.serde_json.specs.Data.{Data}
+use Rattle.std.proofs.lemmas.List.Elements.{All-from_recursion, All-map, All-weaker}
+use Rattle.std.proofs.lemmas.Option.{get_or_from_slice_get, slice_get_within, same_Some}
 
 module _ {D : Type 0} (medium : Medium D) where
   -- ---- the names of the clients
@@ -29,22 +36,13 @@ module _ {D : Type 0} (medium : Medium D) where
       → slice_get ls n ≡ Some laptop → name ≡ laptop.name → old ≡ map (λ (l : Laptop D). l.name) (take n ls)
       → new ≡ old ++ name ∷ [] → new ≡ map (λ (l : Laptop D). l.name) (take (n + 1) ls)
   names_more ls n laptop old new name get is so_far pushed =
-      let here = ap (λ (l : Laptop D). l.name) (sym (get_or_from_slice_get ls n laptop laptop get)) in
-      pushed ∙ (λ i. so_far i ++ (is ∙ here) i ∷ [])
-      ∙ sym (map_more (λ (l : Laptop D). l.name) ls n laptop (slice_get_within ls n laptop get))
+      let here = get_or_from_slice_get ls n laptop laptop get in
+      let more = map_more (λ (l : Laptop D). l.name) ls n laptop (slice_get_within ls n laptop get) in cc
 
   pub names_are : (world : World D) (m : Machine) → StandsFor medium world m → client_names world ≡ names_in m
   names_are world m here =
       each_same_as (ClientStands medium m.scripts) (λ (l : Laptop D). l.name) (λ (k : machine.Client). k.name) (same_name medium m.scripts)
       world.clients.items m.clients here.clients_
-
-  -- ---- the server
-
-  -- one that is lent is alive
-  pub lent_up : (world : World D) (o : Option (Bor (Server D))) (it : Bor (Server D))
-      → ((m : Machine) → StandsFor medium world m → LendsServer (option_copied o) m) → o ≡ Some it
-      → (m : Machine) → StandsFor medium world m → IsServerOf it.now m.server m.requests
-  lent_up world o it lent is m here = subst (λ (o : Option (Server D)). LendsServer o m) (ap option_copied is) (lent m here)
 
   -- ---- the list
 
@@ -70,19 +68,9 @@ module _ {D : Type 0} (medium : Medium D) where
         → y ≡ x ++ log_text names labels → MakesStep medium Logs world world x y tt
     logs_up names labels it same are lent wrote =
         bind world world world x x y true tt (asks world x true (λ m here. sym (lent m here).alive))
-        (says world x y
-        (λ m here.
-        wrote
-        ∙ ap (λ (ns : List (List ℕ)). x ++ log_text ns labels) (same ∙ names_are world m here)
-        ∙ ap (λ (ls : List Label). x ++ log_text (names_in m) ls) (are ∙ (lent m here).labels)))
+        (says world x y (λ m here. rw (wrote, same, are, names_are world m here, (lent m here).labels)))
 
 -- ---- what a client holds, as JSON
-
--- the data of one that is alive
-live_is : (m : Client) → m.node.alive ≡ true
-    → live_data m.name (queue_kept m.node.durable) (view m.node.durable) ≡ client_data m
-live_is m up =
-    ap (λ (b : Bool). if b then live_data m.name (queue_kept m.node.durable) (view m.node.durable) else down_data m.name) (sym up)
 
 module _ {D : Type 0} (medium : Medium D) where
   module _ (laptop : Laptop D) (old new : Json) (names : named new ≡ named old ++ laptop.name ∷ []) where
@@ -91,9 +79,14 @@ module _ {D : Type 0} (medium : Medium D) where
         → shown new ≡ shown old ++ live_data laptop.name items t ∷ [] → Tells medium laptop old new
     tells_live items t up same sees told = λ scripts m here.
         let there : LaptopStands medium scripts laptop m = awake_stands medium scripts laptop m up here in
-        let kept = queue_are (state_in laptop).items (state_in laptop).held m.node.durable there.state.held there.state.items in
         let is : live_data laptop.name items t ≡ client_data m =
-        (λ i. live_data (there.name i) ((same ∙ kept) i) (sees scripts m there i)) ∙ live_is m there.alive in
+        rw (
+          there.alive,
+          same,
+          queue_are (state_in laptop).items (state_in laptop).held m.node.durable there.state.held there.state.items,
+          there.name,
+          sees scripts m there,
+        ) in
         record {
           clients = told ∙ ap (λ (d : Data). shown old ++ d ∷ []) is;
           names = names ∙ ap (λ (n : List ℕ). named old ++ n ∷ []) there.name;
@@ -114,12 +107,8 @@ module _ {D : Type 0} (medium : Medium D) where
         one m.scripts (client_in m n) (client_here medium world m here n laptop get) in
         let within : n < length m.clients = inside_here medium world m here n laptop get in
         record {
-          clients =
-              added.clients ∙ ap (λ (ds : List Data). ds ++ client_data (client_in m n) ∷ []) front.clients
-              ∙ sym (map_more client_data m.clients n no_client within);
-          names =
-              added.names ∙ ap (λ (ns : List (List ℕ)). ns ++ (client_in m n).name ∷ []) front.names
-              ∙ sym (map_more (λ (client : Client). client.name) m.clients n no_client within);
+          clients = rw (added.clients, front.clients) (sym (map_more client_data m.clients n no_client within));
+          names = rw (added.names, front.names) (sym (map_more (λ (client : Client). client.name) m.clients n no_client within));
         }
 
   pub tells_all : (world : World D) (n : ℕ) (json : Json) → length world.clients.items ≤ n → TellsFirst world n json → (m : Machine)
@@ -160,3 +149,73 @@ module _ {D : Type 0} (medium : Medium D) (laptop : Laptop D) (x y : List ℕ) w
       bind laptop laptop laptop x x y false tt
       (asks laptop x false (λ n same. sym (ap (λ (n : Node ClientState). n.alive) same ∙ there.alive)))
       (says_this (line (codes "down")) laptop x y wrote))
+
+-- ---- the clients that a world lends
+
+-- the client that is lent is the laptop's
+lent_up : {D : Type 0} (post : Post (Seated D) D) (it : LiveClient D) → Some it ≡ lent_by post → post ≡ Up (record { client = it })
+lent_up (Up seated) it is = ap (λ (one : LiveClient _). Up (record { client = one })) (same_Some seated.client it (sym is))
+lent_up post it is = absurd cc
+
+module _ {D : Type 0} (medium : Medium D) where
+  -- the client at a place is the machine's there
+  module _ (world : World D) (place : ℕ) (laptop : Laptop D) (get : slice_get world.clients.items place ≡ Some laptop) where
+    pub lends_any : (o : Option (LiveClient D)) → o ≡ lent_by laptop.post → (m : Machine) → StandsFor medium world m
+        → LendsClient medium o place m
+    lends_any None is m here =
+        inr (fallen_stands medium m.scripts laptop (client_in m place) (down_by laptop.post is)
+        (client_here medium world m here place laptop get)).alive
+      where
+        down_by : (post : Post (Seated D) D) → None ≡ lent_by post → is_alive (record laptop { post = post }) ≡ false
+        down_by (Up seated) none = absurd cc
+        down_by post none = refl
+    lends_any (Some it) is m here =
+        let up : laptop.post ≡ Up (record { client = it }) = lent_up laptop.post it is in
+        let there : LaptopStands medium m.scripts laptop (client_in m place) =
+        awake_stands medium m.scripts laptop (client_in m place) (ap (λ (p : Post (Seated D) D). is_alive (record laptop { post = p })) up)
+        (client_here medium world m here place laptop get) in
+        let lent : IsLent medium laptop it =
+        lent_at medium laptop it up (record { scripts = m.scripts; machine = client_in m place; stands = there }) in
+        let within : place < length m.clients = inside_here medium world m here place laptop get in
+        let many = same_length medium world m here in (
+          within,
+          record {
+            alive = there.alive;
+            held = ap (λ (s : kept.State). s.held) lent.state ∙ there.state.held;
+            view =
+                ap kept.view lent.state
+                ∙ view_is (state_in laptop) (live_in laptop) (client_in m place).first (client_in m place).node.durable there.state;
+            queue =
+                subst (λ (s : kept.State). ItemsStand s.items s.held (client_in m place).node.durable.items) (sym lent.state)
+                there.state.items;
+            running =
+                subst (λ (o : kept.State × List Live). RunStand o.0.running o.1 (client_in m place).first
+                (client_in m place).node.durable.running) (λ i. (sym lent.state i, sym lent.live i)) there.state.running;
+            ready = record {
+              tied = lent.tied;
+              begun = lent.begun;
+              place_is = lent.place ∙ here.placed place laptop get;
+              few = omega (arith, here.eight);
+            };
+          },
+        )
+
+    -- and its disk is that of the place
+    pub lends_disk : (o : Option (LiveClient D)) → o ≡ lent_by laptop.post
+        → IfSome o (λ it. ClientIs (λ (l : Laptop D). disk_in l ≡ Some (client_disk it)) place world)
+    lends_disk None is = tt
+    lends_disk (Some it) is =
+        λ other there.
+        ap (λ (l : Laptop D). disk_in l) (sym (same_Some laptop other (sym get ∙ there)))
+        ∙ ap disk_by (lent_up laptop.post it is)
+
+  pub lends_none : (world : World D) (place : ℕ) → length world.clients.items ≤ place → (m : Machine)
+      → StandsFor medium world m → LendsClient medium None place m
+  lends_none world place without m here = let many = same_length medium world m here in inl (omega (arith, without, many))
+
+  -- in the world of some machine what is lent can be looked at
+  pub lends_ready : (world : World D) (place : ℕ) (o : Option (LiveClient D))
+      → ((m : Machine) → StandsFor medium world m → LendsClient medium o place m) → IsWorldOfSome medium world
+      → IfSome o (λ it. IsReady medium place it)
+  lends_ready world place None lends some = tt
+  lends_ready world place (Some it) lends some = (lends some.machine some.stands.stands).1.ready

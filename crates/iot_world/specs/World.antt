@@ -1,7 +1,7 @@
 -- Which plain machine a world stands for, node by node, and how a world changes.
 use Rattle.std.specs.Prelude.{◌≡◌, ◌⊎◌, ◌+◌, ◌≤◌, ◌<◌, ◌∷◌, ◌++◌}
 use Rattle.iot_world.specs.Prelude.{ℕ, Bool, true, false, List, [], length, map, Option, Some, None, IsSome, Result, Ok, slice_get}
-use Rattle.iot_world.specs.Prelude.{AllByRecursion, vec_len, vec_capacity, Medium, Code, AreDeclared, Event, Call, Refines, Declared}
+use Rattle.iot_world.specs.Prelude.{AllByRecursion, vec_len, vec_capacity, Medium, AreDeclared, Event, Call, Refines, Declared}
 use Rattle.iot_world.specs.Prelude.{Machine, handed, client_in, event_part, names_in, IsSound, client_line, Opening, IsEmpty, KeepsDisk}
 use Rattle.iot_world.specs.Prelude.{counts_on, Server, disk_of, ServerStands, KeepsCommits, OpensClient, ClientStands, disk_in, Laptop}
 use Rattle.iot_world.specs.Prelude.{AreApart, Disks, HasPlaces, IsBeside, first_placed, is_promoted, last_placed, World}
@@ -152,6 +152,12 @@ pub record SameArms {D : Type 0} (medium : Medium D) (joins : ℕ) (turns : Bool
   pub commits : KeepsCommits medium old.server new.server
   pub stays : turns ≡ false → is_promoted new.server ≡ is_promoted old.server
 
+-- They are those of before, and none was armed unless that was done.
+pub record LeavesDisks {D T E : Type 0} (medium : Medium D) (arms : Bool) (joins : ℕ) (turns : Bool) (result : Result T E) (old new : World D)
+    : Type 0 where
+  pub kept : KeepsDisks old new
+  pub same : UnlessArmed arms result (SameArms medium joins turns old new)
+
 -- how many clients an event declares
 abbrev pub joined_by : Event → ℕ
 joined_by (events.Client name) = 1
@@ -202,13 +208,6 @@ pub record Starts {D : Type 0} (medium : Medium D) (name : List ℕ) (old new : 
   pub opens : (scripts : List Declared) → Refines (ClientStands medium scripts) OpensClient old new before between on
   pub trails : KeepsTrails old new
   pub says : after ≡ between ++ said_of on name
-
--- a script joins
-pub record AddsScript {D : Type 0} (name : List ℕ) (code : Code) (old new : World D) : Type 0 where
-  pub server : new.server ≡ old.server
-  pub clients : new.clients.items ≡ old.clients.items
-  pub scripts : new.scripts.items ≡ old.scripts.items ++ record { name = name; script = code } ∷ []
-  pub spare : new.spare.items ≡ old.spare.items
 
 -- nothing was declared
 pub record SameDeclared {D : Type 0} (old new : World D) : Type 0 where

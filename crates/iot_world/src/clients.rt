@@ -1,19 +1,19 @@
-//! Declarations, and the events of one client among all.
+//! A client's declaration, and its events among all.
 ghost use Rattle.std.specs.Prelude.{◌≡◌, ◌<◌, ◌++◌, true, false, OnOk};
 ghost use Rattle.iot_world.specs.Prelude.{Declares, client_part, client_line, IsUnopened, SamePlace, disk_in, KeepsDisk};
 ghost use Rattle.iot_event.specs.declared.event.Event.TheVariants.{At};
 ghost use Rattle.iot_text.specs.Texts.{Extends};
 ghost use Rattle.iot_world.specs.Allowed.{MayBefall, stops_client};
 ghost use Rattle.iot_world.specs.Deciding.{Decides};
-ghost use Rattle.iot_world.specs.World.{StandsForSome, MakesStep, SameDeclared, KeepsDisks, SameArms, DeclaresClient, AddsScript};
-ghost use Rattle.iot_world.specs.World.{UnlessArmed, scripts_of, script_count, client_count, Starts};
+ghost use Rattle.iot_world.specs.World.{StandsForSome, MakesStep, SameDeclared, LeavesDisks, DeclaresClient};
+ghost use Rattle.iot_world.specs.World.{scripts_of, script_count, client_count, Starts};
 
 use crate::disks::take_first;
 use crate::nodes::{befall, relink};
 use crate::world::World;
 use iot_disk::Disk;
-use iot_event::{ClientEvent, SharedProfile, SharedScript};
-use iot_exchange::{DeclaredScript, perform};
+use iot_event::{ClientEvent, SharedProfile};
+use iot_exchange::perform;
 use iot_laptop::Laptop;
 use iot_text::{Name, NoMemory, Text};
 use std::alloc::Global;
@@ -31,8 +31,7 @@ impl<D: Disk> World<D> {
         ensures step { OnOk result
             (MakesStep D.medium (Declares name.now) self.old self.new out.old out.new tt) }
         ensures declared { OnOk result (DeclaresClient self.old self.new) }
-        ensures disks { KeepsDisks self.old self.new }
-        ensures arms { SameArms D.medium 1 false self.old self.new }
+        ensures disks { LeavesDisks D.medium false 1 false result self.old self.new }
     {
         self.clients.reserve(1)?;
         let place = self.clients.len() as u64;
@@ -41,24 +40,6 @@ impl<D: Disk> World<D> {
         let started = start(&mut laptop, alloc, name, out);
         self.clients.push_reserved(laptop);
         started
-    }
-
-    /// A script joins.
-    pub(crate) fn declare_script(
-        &mut self,
-        name: &Name,
-        script: &SharedScript,
-    ) -> Result<(), NoMemory>
-        requires { StandsForSome D.medium self.old }
-        ensures world { OnOk result (AddsScript name.now script.now self.old self.new) }
-        ensures disks { KeepsDisks self.old self.new }
-        ensures arms { SameArms D.medium 0 false self.old self.new }
-    {
-        self.scripts.push(DeclaredScript {
-            name: *name,
-            script: script.share()?,
-        })?;
-        Ok(())
     }
 
     /// An event of the client at this place.
@@ -76,8 +57,7 @@ impl<D: Disk> World<D> {
             (MakesStep D.medium (client_part (scripts_of self.old) client what.now) self.old self.new out.old out.new tt) }
         ensures decided { OnOk result (Decides D.medium (At client what.now) self.old self.new out.old out.new) }
         ensures counts { SameDeclared self.old self.new }
-        ensures disks { KeepsDisks self.old self.new }
-        ensures arms { UnlessArmed (stops_client what.now) result (SameArms D.medium 0 false self.old self.new) }
+        ensures disks { LeavesDisks D.medium (stops_client what.now) 0 false result self.old self.new }
         ensures text { stops_client what.now ≡ true → Extends out.old out.new }
     {
         let laptop = &mut self.clients[client as usize];

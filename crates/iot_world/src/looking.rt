@@ -79,6 +79,7 @@ impl<D: Disk> World<D> {
 }
 
 /// Tells a client's queue and its view, or that it is down.
+#[tactic(auto, using(iot_laptop::proofs::NodesLaws::some_awake))]
 fn tell<D: Disk>(laptop: &Laptop<D>, json: &mut Json) -> Result<(), NoMemory>
     requires { StandsAnyhow D.medium laptop.now }
     ensures { OnOk result (Tells D.medium laptop.now json.old json.new) }

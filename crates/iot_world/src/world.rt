@@ -2,7 +2,7 @@
 ghost use Rattle.std.specs.Prelude.{◌≡◌, List, [], ◌∷◌, true, OnOk, IfOk, IfErr, IfSome};
 ghost use Rattle.std.specs.Option.{option_copied};
 ghost use Rattle.iot_client.specs.Ties.{disk_of as client_disk};
-ghost use Rattle.iot_world.specs.Prelude.{AreDeclared, Event as Happens, disk_in, Machine, disk_of};
+ghost use Rattle.iot_world.specs.Prelude.{AreDeclared, Event as Happens, disk_in, Machine, disk_of, event_part};
 ghost use Rattle.iot_server_node.specs.Servers as servers;
 ghost use Rattle.iot_text.specs.Texts.{Extends};
 ghost use Rattle.iot_world.specs.Allowed.{IsAllowed, arms_a_disk, promotes};
@@ -12,7 +12,7 @@ use crate::disks::{put_ends, put_first, take_ends};
 use crate::nodes::arms;
 use iot_client::Client;
 use iot_disk::Disk;
-use iot_event::Event;
+use iot_event::{Event, NodeEvent};
 use iot_exchange::DeclaredScript;
 use iot_laptop::Laptop;
 use iot_server::Server;
@@ -35,7 +35,7 @@ pub struct World<D: Disk> {
 
 impl<D: Disk> World<D> {
     ghost use Rattle.iot_world.specs.World.{StandsFor, IsWorldOfSome, EventSteps, DeclaredOn, Opens, HasDisks, KeepsDisks, SameArms};
-    ghost use Rattle.iot_world.specs.World.{AreUnarmed, UnlessArmed, GivesBack, joined_by, disks_of, ClientIs, client_count, script_names};
+    ghost use Rattle.iot_world.specs.World.{AreUnarmed, LeavesDisks, MakesStep, GivesBack, joined_by, disks_of, ClientIs, client_count, script_names};
     ghost use Rattle.iot_world.specs.World.{LendsServer, LendsClient, IsReady};
     ghost use Rattle.iot_world.specs.Deciding.{Decides};
 
@@ -83,6 +83,7 @@ impl<D: Disk> World<D> {
     /// # Errors
     ///
     /// If memory runs out.
+    #[tactic(auto, using(crate::proofs::WorldsLaws::event_steps))]
     pub fn apply(&mut self, alloc: Global, event: &Event, out: &mut Text) -> Result<(), NoMemory>
         requires allowed { IsAllowed event.now (client_count self.old) (script_names self.old) }
         requires stands { IsWorldOfSome D.medium self.old }
@@ -133,6 +134,7 @@ impl<D: Disk> World<D> {
     }
 
     /// The place of the server's disk among those that `into_disks` gives back: 0, or 9 since its backup was promoted. Does not allocate.
+    #[tactic(auto, using(crate::proofs::PlacesLaws::promoted_is))]
     pub fn server_place(&self) -> usize
         ensures { (m : Machine) → StandsFor D.medium self.now m → result ≡ place_of m.promoted }
     {
@@ -159,26 +161,35 @@ impl<D: Disk> World<D> {
     }
 
     /// Does one event, and says what it does. One that arms a disk says so before that; another one is to have a text of its own.
+    #[tactic(auto, using(crate::proofs::WorldsLaws::client_steps))]
     fn act(&mut self, alloc: Global, event: &Event, out: &mut Text) -> Result<(), NoMemory>
         requires allowed { IsAllowed event.now (client_count self.old) (script_names self.old) }
         requires stands { IsWorldOfSome D.medium self.old }
-        ensures step { OnOk result
-            (EventSteps D.medium event.now self.old self.new out.old out.new) }
+        ensures step { OnOk result (MakesStep D.medium (event_part event.now) self.old self.new out.old out.new tt) }
         ensures decided { OnOk result (Decides D.medium event.now self.old self.new out.old out.new) }
-        ensures disks { KeepsDisks self.old self.new }
-        ensures arms { UnlessArmed (arms_a_disk event.now) result
-            (SameArms D.medium (joined_by event.now) (promotes event.now) self.old self.new) }
+        ensures disks { LeavesDisks D.medium (arms_a_disk event.now) (joined_by event.now) (promotes event.now) result self.old self.new }
         ensures text { arms_a_disk event.now ≡ true → Extends out.old out.new }
         ensures declared { OnOk result ((later : List Happens) → DeclaredOn (event.now ∷ later) self.old → DeclaredOn later self.new) }
     {
         match event {
             Event::Client(name) => self.declare_client(alloc, name, out),
-            Event::Script(name, script) => self.declare_script(name, script),
+            Event::Script(name, script) => {
+                self.scripts.push(DeclaredScript {
+                    name: *name,
+                    script: script.share()?,
+                })?;
+                Ok(())
+            }
             Event::Profile(_, _) => Ok(()),
             Event::At { client, what } => self.at(alloc, *client, what, out),
-            Event::Server(what) => self.befall_server(alloc, *what, out),
-            Event::Promote => self.promote(alloc, out),
-            Event::StopBackup { calls, pick } => self.stop_backup(*calls, *pick, out),
+            Event::Server(what) => match what {
+                NodeEvent::Show => self.server.show(out),
+                NodeEvent::Stop { calls, pick } => self.server.arm(*calls, *pick, out),
+                NodeEvent::Crash => self.server.crash(out),
+                NodeEvent::Restart => self.server.restart(alloc, out),
+            },
+            Event::Promote => self.server.promote(alloc, out),
+            Event::StopBackup { calls, pick } => self.server.arm_backup(*calls, *pick, out),
             Event::Log => self.log(alloc, out),
         }
     }

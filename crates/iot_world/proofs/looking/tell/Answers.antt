@@ -1,13 +1,7 @@
-use Rattle.iot_world.proofs.Common.{sym, ap, ◌∙◌, some_awake}
+use Rattle.iot_world.proofs.Common.{sym, ap, ◌∙◌}
 use Rattle.iot_world.specs.Prelude.{State}
 use Rattle.iot_world.proofs.LookingLaws.{tells_live}
 use Rattle.iot_world.proofs.looking.tell.Goals as goal
-
-pub client-requires : goal.client-requires
-client-requires g c = some_awake _ c.args.laptop.now c.requires (sym c.is_alive.ensures ∙ c.if-not-is_alive.false)
-
-pub view-requires : goal.view-requires
-view-requires g c = some_awake _ c.args.laptop.now c.requires (sym c.is_alive.ensures ∙ c.if-not-is_alive.false)
 
 pub returns : goal.returns
 returns g c =

@@ -1,10 +1,7 @@
-use Rattle.iot_world.proofs.Common.{sym, ◌∙◌, some_awake}
-use Rattle.iot_world.proofs.EventsLaws.{then_ok}
+use Rattle.iot_world.proofs.Common.{sym, ◌∙◌}
+use Rattle.iot_world.proofs.WorldsLaws.{then_ok}
 use Rattle.iot_world.proofs.LookingLaws.{shows, shows_down}
 use Rattle.iot_world.proofs.nodes.show_view.Goals as goal
-
-pub view-requires : goal.view-requires
-view-requires g c = some_awake _ c.args.laptop.now c.requires (sym c.is_alive.ensures ∙ c.if-is_alive.true)
 
 pub returns-then-is_alive : goal.returns-then-is_alive
 returns-then-is_alive g c =

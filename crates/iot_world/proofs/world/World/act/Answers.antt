@@ -1,44 +1,118 @@
-use Rattle.iot_world.proofs.Common.{refl}
+use Rattle.iot_world.proofs.Common.{append-nil, commits_same, refl, rules, sym}
 use Rattle.iot_event.specs.declared.event.Event.TheVariants as events
-use Rattle.iot_world.proofs.DisksLaws.{arms_same, unless_armed}
+use Rattle.iot_event.specs.declared.event.NodeEvent.TheVariants as nodes
+use Rattle.iot_node.proofs.StepsLaws.{says}
+use Rattle.iot_world.proofs.DecidingLaws.{decides_promoted}
+use Rattle.iot_world.proofs.DisksLaws.{armed_leaves, nothing_leaves, server_keeps, server_leaves}
 use Rattle.iot_world.proofs.DeclaringLaws.{declares_script}
-use Rattle.iot_world.proofs.EventsLaws.{then_ok, event_steps, client_steps, profile_steps, some_world}
+use Rattle.iot_world.proofs.PlacesLaws.{promoted_follows}
+use Rattle.iot_world.proofs.WorldsLaws.{arms_backup, at_server, both_ok, event_grows, promotes, restarts, some_world, then_ok}
 use Rattle.iot_world.proofs.world.World.act.Goals as goal
 
-pub returns-in-Client-clause-step : goal.returns-in-Client-clause-step
-returns-in-Client-clause-step g c =
-    rw c.in-Client.is (then_ok _ c.declare_client.ensures.step (event_steps (events.Client c.in-Client.name)))
-
-pub returns-in-Script-clause-step : goal.returns-in-Script-clause-step
-returns-in-Script-clause-step g c =
+pub returns-in_ok-push-in-Script-clause-step : goal.returns-in_ok-push-in-Script-clause-step
+returns-in_ok-push-in-Script-clause-step g c =
     let none = rw c.in-Script.is at c.requires.allowed in
-    rw c.in-Script.is
-    (then_ok c.declare_script.result c.declare_script.ensures.world
-    (λ adds. event_steps (events.Script c.in-Script.name c.in-Script.script) (declares_script _ _ _ _ _ _ none adds)))
+    rw c.in-Script.is (declares_script _ _ _ _ _ _ none (search rules))
 
-pub returns-in-At-clause-step : goal.returns-in-At-clause-step
-returns-in-At-clause-step g c = rw c.in-At.is (then_ok _ c.at.ensures.step (client_steps c.in-At.client c.in-At.what))
+pub returns-in_ok-push-in-Script-clause-disks : goal.returns-in_ok-push-in-Script-clause-disks
+returns-in_ok-push-in-Script-clause-disks g c = nothing_leaves g.D.Disk.medium _ _ _ (some_world c.requires.stands) refl refl refl
 
-pub returns-in-Server-clause-step : goal.returns-in-Server-clause-step
-returns-in-Server-clause-step g c =
-    rw c.in-Server.is (then_ok _ c.befall_server.ensures.step (event_steps (events.Server c.in-Server.what)))
+pub returns-in_err-share-in-Script-clause-disks : goal.returns-in_err-share-in-Script-clause-disks
+returns-in_err-share-in-Script-clause-disks g c = nothing_leaves g.D.Disk.medium _ _ _ (some_world c.requires.stands) refl refl refl
+
+pub returns-in_err-push-in-Script-clause-disks : goal.returns-in_err-push-in-Script-clause-disks
+returns-in_err-push-in-Script-clause-disks g c = nothing_leaves g.D.Disk.medium _ _ _ (some_world c.requires.stands) refl refl refl
+
+pub returns-in-Profile-clause-step : goal.returns-in-Profile-clause-step
+returns-in-Profile-clause-step g c = rw c.in-Profile.is (says _ _ _ (λ m here. sym (append-nil _)))
+
+pub returns-in-Profile-clause-disks : goal.returns-in-Profile-clause-disks
+returns-in-Profile-clause-disks g c = nothing_leaves g.D.Disk.medium _ _ _ (some_world c.requires.stands) refl refl refl
+
+pub returns-in-Log-clause-disks : goal.returns-in-Log-clause-disks
+returns-in-Log-clause-disks g c = nothing_leaves g.D.Disk.medium _ _ _ (some_world c.requires.stands) refl refl refl
+
+pub returns-in-Show-clause-step : goal.returns-in-Show-clause-step
+returns-in-Show-clause-step g c =
+    rw (c.in-Server.is, c.in-Show.is) (then_ok _ c.show.ensures (at_server _ _ _ (λ promoted arms had. had) _ _ _
+    (event_grows g.D.Disk.medium c.args.self.now (events.Server nodes.Show))))
+
+pub returns-in-Show-clause-disks : goal.returns-in-Show-clause-disks
+returns-in-Show-clause-disks g c = nothing_leaves g.D.Disk.medium _ _ _ (some_world c.requires.stands) refl refl refl
+
+pub returns-in-Stop-clause-step : goal.returns-in-Stop-clause-step
+returns-in-Stop-clause-step g c =
+    rw (c.in-Server.is, c.in-Stop.is) (then_ok _ c.arm.ensures.step (at_server _ _ _ c.arm.ensures.beside _ _ _
+    (event_grows g.D.Disk.medium c.args.self.now (events.Server (nodes.Stop c.in-Stop.calls c.in-Stop.pick)))))
+
+pub returns-in-Stop-clause-disks : goal.returns-in-Stop-clause-disks
+returns-in-Stop-clause-disks g c =
+    rw (c.in-Server.is, c.in-Stop.is)
+    (armed_leaves _ _ _ c.arm.result _ _ _ _ (some_world c.requires.stands) (returns-in-Stop-clause-step g c) c.arm.ensures.same)
+
+pub returns-in-Crash-clause-step : goal.returns-in-Crash-clause-step
+returns-in-Crash-clause-step g c =
+    rw (c.in-Server.is, c.in-Crash.is) (then_ok _ c.crash.ensures.step (at_server _ _ _ c.crash.ensures.beside _ _ _
+    (event_grows g.D.Disk.medium c.args.self.now (events.Server nodes.Crash))))
+
+pub returns-in-Crash-clause-disks : goal.returns-in-Crash-clause-disks
+returns-in-Crash-clause-disks g c =
+    let it = c.crash.ensures in
+    rw c.in-Server.is
+    (server_leaves g.D.Disk.medium _ _ _
+    (server_keeps _ _ (some_world c.requires.stands) _ it.beside it.disk (commits_same _ _ _ it.same)))
+
+pub returns-in-Restart-clause-step : goal.returns-in-Restart-clause-step
+returns-in-Restart-clause-step g c =
+    rw (c.in-Server.is, c.in-Restart.is) (then_ok _ c.restart.ensures.step (restarts _ _ _ c.restart.ensures.beside _ _))
+
+pub returns-in-Restart-clause-disks : goal.returns-in-Restart-clause-disks
+returns-in-Restart-clause-disks g c =
+    let it = c.restart.ensures in
+    rw c.in-Server.is
+    (server_leaves g.D.Disk.medium _ _ _ (server_keeps _ _ (some_world c.requires.stands) _ it.beside it.disk it.records))
+
+pub promote-requires-clause-sound : goal.promote-requires-clause-sound
+promote-requires-clause-sound g c = record {
+  names = _;
+  node = c.requires.stands.machine.server;
+  requests = c.requires.stands.machine.requests;
+  stands = c.requires.stands.stands.stands.server;
+}
+
+pub promote-requires-clause-other : goal.promote-requires-clause-other
+promote-requires-clause-other g c = record { promoted = _; arms = _; beside = c.requires.stands.stands.stands.beside }
 
 pub returns-in-Promote-clause-step : goal.returns-in-Promote-clause-step
-returns-in-Promote-clause-step g c = rw c.in-Promote.is (then_ok _ c.promote.ensures.step (event_steps events.Promote))
+returns-in-Promote-clause-step g c =
+    let it = c.promote.ensures in rw c.in-Promote.is (promotes _ _ _ c.promote.result _ _ it.up it.nothing it.stays it.step)
+
+pub returns-in-Promote-clause-decided : goal.returns-in-Promote-clause-decided
+returns-in-Promote-clause-decided g c =
+    rw c.in-Promote.is
+    (decides_promoted g.D.Disk.medium c.promote.result _ _ _ _ c.promote.ensures.decided c.promote.ensures.came)
+
+pub returns-in-Promote-clause-disks : goal.returns-in-Promote-clause-disks
+returns-in-Promote-clause-disks g c =
+    let it = c.promote.ensures in
+    rw c.in-Promote.is
+    (server_leaves g.D.Disk.medium _ _ _ (record {
+      follows = promoted_follows g.D.Disk.medium _ _ _ _ c.requires.stands.stands.stands.beside it.stays it.turns;
+      commits = it.records;
+      stays = λ no. absurd cc;
+    }))
+
+pub arm_backup-requires : goal.arm_backup-requires
+arm_backup-requires g c = record { promoted = _; arms = _; beside = c.requires.stands.stands.stands.beside }
 
 pub returns-in-StopBackup-clause-step : goal.returns-in-StopBackup-clause-step
 returns-in-StopBackup-clause-step g c =
     rw c.in-StopBackup.is
-    (then_ok _ c.stop_backup.ensures.step (event_steps (events.StopBackup c.in-StopBackup.calls c.in-StopBackup.pick)))
+    (both_ok c.arm_backup.result c.arm_backup.ensures.said c.arm_backup.ensures.step
+    (arms_backup g.D.Disk.medium _ _ c.in-StopBackup.calls c.in-StopBackup.pick _ _))
 
-pub returns-in-Log-clause-step : goal.returns-in-Log-clause-step
-returns-in-Log-clause-step g c = rw c.in-Log.is (then_ok _ c.log.ensures (event_steps events.Log))
-
-pub returns-in-Log-clause-arms : goal.returns-in-Log-clause-arms
-returns-in-Log-clause-arms g c = unless_armed _ _ _ (arms_same _ _ (some_world c.requires.stands) _ _ refl)
-
-pub returns-in-Profile-clause-step : goal.returns-in-Profile-clause-step
-returns-in-Profile-clause-step g c = profile_steps _ _ _ _ c.in-Profile.is
-
-pub returns-in-Profile-clause-arms : goal.returns-in-Profile-clause-arms
-returns-in-Profile-clause-arms g c = unless_armed _ _ _ (arms_same _ _ (some_world c.requires.stands) _ _ refl)
+pub returns-in-StopBackup-clause-disks : goal.returns-in-StopBackup-clause-disks
+returns-in-StopBackup-clause-disks g c =
+    rw c.in-StopBackup.is
+    (armed_leaves _ _ _ c.arm_backup.result _ _ _ _ (some_world c.requires.stands) (returns-in-StopBackup-clause-step g c)
+    c.arm_backup.ensures.same)

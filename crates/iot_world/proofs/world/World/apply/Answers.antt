@@ -1,27 +1,29 @@
-use Rattle.std.proofs.Common.{◌≡◌, ◌++◌, ℕ, List, [], subst, sym, refl, rules}
+use Rattle.std.proofs.Common.{◌≡◌, ◌++◌, ℕ, List, [], rules}
 use Rattle.std.specs.Prelude.{Result, Ok, Err, OnOk, OnErr}
 use Rattle.iot_text.specs.Texts.{Extends}
 use Rattle.iot_text.proofs.TextsLaws.{extends_by, extends_nothing}
 use Rattle.iot_world.proofs.DecidingLaws.{decides_behind}
-use Rattle.iot_world.proofs.EventsLaws.{then_ok, behind, steps_some}
+use Rattle.iot_world.proofs.WorldsLaws.{then_ok, behind, event_steps, steps_some}
 use Rattle.iot_world.proofs.world.World.apply.Goals as goal
 
 pub returns-then-is_empty-clause-stands : goal.returns-then-is_empty-clause-stands
 returns-then-is_empty-clause-stands g c = then_ok _ c.act.ensures.step (steps_some c.args.event.now c.requires.stands)
 
-pub returns-then-is_empty-clause-text : goal.returns-then-is_empty-clause-text
-returns-then-is_empty-clause-text g c = extends_nothing c.args.out.now c.act.new.out (c.is_empty.ensures.0 c.if-is_empty.true)
-
 pub returns-then-arms-clause-stands : goal.returns-then-arms-clause-stands
 returns-then-arms-clause-stands g c = then_ok _ c.act-then-arms.ensures.step (steps_some c.args.event.now c.requires.stands)
+
+pub returns-then-is_empty-clause-text : goal.returns-then-is_empty-clause-text
+returns-then-is_empty-clause-text g c = extends_nothing c.args.out.now c.act.new.out (c.is_empty.ensures.0 c.if-is_empty.true)
 
 pub returns-clause-step : goal.returns-clause-step
 returns-clause-step g c =
     then_ok c.append_text.result c.append_text.ensures.ok
-    (λ wrote. behind c.args.out.now _ _ wrote (rw c.new-said.ensures at c.in_ok-act.ensures.step))
+    (λ wrote. event_steps c.args.event.now (behind c.args.out.now _ _ wrote (rw c.new-said.ensures at c.in_ok-act.ensures.step)))
 
 pub returns-clause-stands : goal.returns-clause-stands
-returns-clause-stands g c = then_ok _ (returns-clause-step g c) (steps_some c.args.event.now c.requires.stands)
+returns-clause-stands g c =
+    then_ok c.append_text.result c.append_text.ensures.ok
+    (λ wrote. steps_some c.args.event.now c.requires.stands c.in_ok-act.ensures.step)
 
 pub returns-clause-decided : goal.returns-clause-decided
 returns-clause-decided g c =

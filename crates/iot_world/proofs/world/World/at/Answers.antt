@@ -1,12 +1,8 @@
-use Rattle.iot_world.proofs.Common.{refl, ap, ◌∙◌, commits_kept}
-use Rattle.iot_world.specs.Prelude.{is_some}
+use Rattle.iot_world.proofs.Common.{false, refl, commits_kept}
 use Rattle.iot_world.proofs.DecidingLaws.{decides_here}
-use Rattle.iot_world.proofs.DisksLaws.{unless_armed, client_with, pair_keeps, pair_with, put_keeps, node_arms, node_has, now_has}
-use Rattle.iot_world.proofs.DisksLaws.{kept_follows, same_follows, server_keeps}
-use Rattle.iot_laptop.proofs.CallsLaws.{if_two}
-use Rattle.iot_world.proofs.EventsLaws.{then_ok}
+use Rattle.iot_world.proofs.DisksLaws.{client_leaves, server_keeps, server_same}
 use Rattle.iot_world.proofs.ListLaws.{looked_up}
-use Rattle.iot_world.proofs.WorldsLaws.{node_keeps, link_keeps, stands_there, at_client, at_task, task_stands}
+use Rattle.iot_world.proofs.WorldsLaws.{node_keeps, link_keeps, stands_there, at_client, at_task, task_stands, both_ok, then_ok}
 use Rattle.iot_world.proofs.world.World.at.Goals as goal
 
 pub befall-requires : goal.befall-requires
@@ -25,9 +21,8 @@ perform-requires-clause-stands g c =
 pub returns-in-Node-clause-step : goal.returns-in-Node-clause-step
 returns-in-Node-clause-step g c =
     rw c.in-Node.is
-    (if_two c.befall.result c.befall.ensures.step c.befall.ensures.trails (λ done step trails.
-    at_client _ _ _ _ _ _ _ _ _ (node_keeps c.in-Node.event) c.requires.inside c.index_mut-laptop.ensures.value refl c.befall.ensures.place
-    trails step))
+    (both_ok c.befall.result c.befall.ensures.trails c.befall.ensures.step (at_client _ _ _ _ _ _ _ _ _ (node_keeps c.in-Node.event)
+    c.requires.inside c.index_mut-laptop.ensures.value refl c.befall.ensures.place))
 
 pub returns-in-Node-clause-decided : goal.returns-in-Node-clause-decided
 returns-in-Node-clause-decided g c =
@@ -37,14 +32,9 @@ returns-in-Node-clause-decided g c =
 
 pub returns-in-Node-clause-disks : goal.returns-in-Node-clause-disks
 returns-in-Node-clause-disks g c =
-    put_keeps g.D.Disk.medium _ _ c.args.client _ _ c.requires.inside c.index_mut-laptop.ensures.value refl
-    (node_has g.D.Disk.medium _ _ _ _ c.befall.ensures.disk)
-
-pub returns-in-Node-clause-arms : goal.returns-in-Node-clause-arms
-returns-in-Node-clause-arms g c =
     rw c.in-Node.is
-    (node_arms g.D.Disk.medium _ _ _ _ _ c.befall.ensures.disk
-    (client_with _ _ _ c.args.client _ _ c.requires.inside c.index_mut-laptop.ensures.value refl c.requires.stands))
+    (client_leaves g.D.Disk.medium _ _ _ c.args.client _ _ c.requires.inside c.index_mut-laptop.ensures.value refl
+    (server_same _ _ c.requires.stands) _ c.befall.result c.befall.ensures.disk)
 
 pub returns-in-Link-clause-step : goal.returns-in-Link-clause-step
 returns-in-Link-clause-step g c =
@@ -54,13 +44,9 @@ returns-in-Link-clause-step g c =
 
 pub returns-in-Link-clause-disks : goal.returns-in-Link-clause-disks
 returns-in-Link-clause-disks g c =
-    put_keeps g.D.Disk.medium _ _ c.args.client _ _ c.requires.inside c.index_mut-laptop.ensures.value refl
-    (λ had. ap is_some c.relink.ensures.disk ∙ had)
-
-pub returns-in-Link-clause-arms : goal.returns-in-Link-clause-arms
-returns-in-Link-clause-arms g c =
-    unless_armed _ _ _ (client_with _ _ _ c.args.client _ _ c.requires.inside c.index_mut-laptop.ensures.value refl c.requires.stands
-    (same_follows _ _ _ c.relink.ensures.disk))
+    rw c.in-Link.is
+    (client_leaves g.D.Disk.medium _ _ _ c.args.client _ _ c.requires.inside c.index_mut-laptop.ensures.value refl
+    (server_same _ _ c.requires.stands) false c.relink.result c.relink.ensures.disk)
 
 pub returns-in-Task-clause-step : goal.returns-in-Task-clause-step
 returns-in-Task-clause-step g c =
@@ -70,12 +56,7 @@ returns-in-Task-clause-step g c =
 
 pub returns-in-Task-clause-disks : goal.returns-in-Task-clause-disks
 returns-in-Task-clause-disks g c =
-    pair_keeps g.D.Disk.medium _ _ c.args.client _ _ c.requires.inside c.index_mut-laptop.ensures.value refl _
-    c.perform.ensures.disks.beside (λ had. now_has g.D.Disk.medium _ _ c.perform.ensures.disks.client)
-
-pub returns-in-Task-clause-arms : goal.returns-in-Task-clause-arms
-returns-in-Task-clause-arms g c =
     let kept = c.perform.ensures.disks in
-    unless_armed _ _ _
-    (pair_with _ _ _ c.args.client _ _ c.requires.inside c.index_mut-laptop.ensures.value refl _
-    (server_keeps _ _ c.requires.stands _ kept.beside kept.server (commits_kept _ _ _ kept.records)) (kept_follows _ _ _ kept.client))
+    rw c.in-Task.is
+    (client_leaves g.D.Disk.medium _ _ _ c.args.client _ _ c.requires.inside c.index_mut-laptop.ensures.value refl
+    (server_keeps _ _ c.requires.stands _ kept.beside kept.server (commits_kept _ _ _ kept.records)) false c.perform.result kept.client)

@@ -1,12 +1,12 @@
-use Rattle.iot_world.proofs.Common.{◌++◌, ◌∷◌, [], length, ap, ◌∙◌}
+use Rattle.iot_world.proofs.Common.{◌++◌, ◌∷◌, [], length, ap, refl, ◌∙◌}
 use Rattle.iot_laptop.specs.Laptops.{stamps_by}
-use Rattle.iot_world.proofs.DisksLaws.{arms_same}
-use Rattle.iot_world.proofs.DeclaringLaws.{declares, joins, joined_keeps, joined_arms}
-use Rattle.iot_world.proofs.EventsLaws.{then_ok}
+use Rattle.iot_world.proofs.DeclaringLaws.{declares, joins, joined_leaves}
+use Rattle.iot_world.proofs.DisksLaws.{nothing_leaves}
+use Rattle.iot_world.proofs.WorldsLaws.{then_ok}
 use Rattle.iot_world.proofs.world.World.declare_client.Goals as goal
 
-pub returns-in_err-reserve-clause-arms : goal.returns-in_err-reserve-clause-arms
-returns-in_err-reserve-clause-arms g c = arms_same _ _ c.requires.stands _ _ c.reserve.ensures.items
+pub returns-in_err-reserve-clause-disks : goal.returns-in_err-reserve-clause-disks
+returns-in_err-reserve-clause-disks g c = nothing_leaves g.D.Disk.medium _ _ _ c.requires.stands refl c.reserve.ensures.items refl
 
 pub returns : goal.returns
 returns g c =
@@ -16,10 +16,11 @@ returns g c =
     let taken = c.take_first-disk.ensures in
     let it = c.unopened-laptop.ensures in
     let kept = c.start-started.ensures in
+    let started = c.start-started.result in
     record {
       step = then_ok _ kept.step (declares _ _ _ _ _ _ _ _ push taken.items (it.place ∙ at) kept.place it.stands
           (ap stamps_by it.unopened.down) _ _);
-      declared = joins g.D.Disk.medium c.args.name.now _ _ _ _ was _ push taken.items c.start-started.result;
-      disks = joined_keeps _ c.args.name.now _ _ _ _ was _ push taken.items it.disk kept.disk taken.len taken.capacity;
-      arms = joined_arms _ c.args.name.now _ _ _ _ was _ push taken.items it.disk kept.disk c.requires.stands;
+      declared = joins g.D.Disk.medium c.args.name.now _ _ _ _ was _ push taken.items started;
+      disks = joined_leaves _ c.args.name.now _ _ _ _ was _ push taken.items started it.disk kept.disk taken.len taken.capacity
+          c.requires.stands;
     }

@@ -1,7 +1,7 @@
-use Rattle.iot_world.proofs.Common.{List, ap, rules, sym, ◌∙◌}
+use Rattle.iot_world.proofs.Common.{◌≡◌, List, [], ap, rules, sym, ◌∙◌}
 use Rattle.iot_world.specs.Prelude.{disk_of}
 use Rattle.iot_world.specs.World.{with_server}
-use Rattle.iot_world.proofs.DisksLaws.{left_one, last_has, all_left}
+use Rattle.iot_world.proofs.DisksLaws.{left_one, last_has}
 use Rattle.iot_world.proofs.PlacesLaws.{other_there, server_list}
 use Rattle.iot_world.proofs.world.World.into_disks.Goals as goal
 
@@ -20,5 +20,6 @@ into_disks-first-requires g c = other_there g.D.Disk.medium c.args.self.server c
 pub returns : goal.returns
 returns g c =
     let own = c.args.self.server in
+    let none : c.laptops.clients.items ≡ [] = search rules in
     c.put_ends.ensures ∙ sym (server_list g.D.Disk.medium own _ _ _ c.into_disks-first.ensures _)
-    ∙ ap (λ (disks : List _). with_server (disk_of own) disks) (all_left _ _ _ _ _ _ (search rules) c.laptops.invariant)
+    ∙ ap (λ (disks : List _). with_server (disk_of own) disks) (rw none at c.laptops.invariant.same)

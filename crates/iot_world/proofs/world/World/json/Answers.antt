@@ -1,10 +1,9 @@
 use Rattle.iot_world.proofs.Common.{ap, ◌∙◌, state_of}
-use Rattle.iot_world.proofs.LookingLaws.{lent_up, are_of}
+use Rattle.iot_world.proofs.LookingLaws.{are_of}
 use Rattle.iot_world.proofs.world.World.json.Goals as goal
 
 pub finish-requires : goal.finish-requires
 finish-requires g c =
     are_of _ _ _ _ c.in-Some.server.now c.requires
     (c.in_ok-json.ensures c.requires.machine c.requires.stands.stands).names
-    (c.labels.ensures ∙ ap (λ s. (state_of s).labels) c.store.ensures)
-    (lent_up _ _ _ _ c.server.ensures.lent c.in-Some.is)
+    (c.labels.ensures ∙ ap (λ s. (state_of s).labels) c.store.ensures) c.in-Some.ensures.lent

@@ -1,5 +1,5 @@
 use Rattle.iot_world.proofs.Common.{ap, ◌∙◌, state_of}
-use Rattle.iot_world.proofs.LookingLaws.{lent_up, names_are, are_of, logs_up}
+use Rattle.iot_world.proofs.LookingLaws.{names_are, are_of, logs_up}
 use Rattle.iot_world.proofs.world.World.log.Goals as goal
 
 pub log-requires : goal.log-requires
@@ -7,12 +7,10 @@ log-requires g c =
     are_of _ _ _ _ c.in-Some.server.now c.requires.sound
     (c.as_slice.ensures.value ∙ c.in_ok-names-in-Some.ensures
     ∙ names_are _ c.args.self.now c.requires.sound.machine c.requires.sound.stands.stands)
-    (c.labels.ensures ∙ ap (λ s. (state_of s).labels) c.store.ensures)
-    (lent_up _ _ _ _ c.server.ensures.lent c.in-Some.is)
+    (c.labels.ensures ∙ ap (λ s. (state_of s).labels) c.store.ensures) c.in-Some.ensures.lent
 
 pub returns-in_ok-log-in-Some : goal.returns-in_ok-log-in-Some
 returns-in_ok-log-in-Some g c =
     logs_up _ _ _ _ _ _ c.in-Some.server.now
     (c.as_slice.ensures.value ∙ c.in_ok-names-in-Some.ensures) (c.labels.ensures ∙ ap (λ s. (state_of s).labels) c.store.ensures)
-    (lent_up _ _ _ _ c.server.ensures.lent c.in-Some.is)
-    c.in_ok-log-in-Some.ensures.ok
+    c.in-Some.ensures.lent c.in_ok-log-in-Some.ensures.ok

@@ -1,16 +1,16 @@
-use Rattle.iot_world.proofs.Common.{[], ap, arith, length, refl}
-use Rattle.iot_world.proofs.DeclaringLaws.{first_fresh, last_fresh, opens, opens_unarmed, gives_back}
-use Rattle.iot_world.proofs.PlacesLaws.{has_places, other_there, server_placed}
+use Rattle.iot_world.proofs.Common.{[], arith, refl}
+use Rattle.iot_world.proofs.DeclaringLaws.{all_fresh, rest_fresh, opens, follows, opens_unarmed, gives_back}
+use Rattle.iot_world.proofs.PlacesLaws.{other_there}
 use Rattle.iot_world.proofs.world.World.new.Goals as goal
 
 pub take_ends-first-requires : goal.take_ends-first-requires
 take_ends-first-requires g c = omega (arith, c.requires.ten)
 
 pub unopened-server-requires-clause-first : goal.unopened-server-requires-clause-first
-unopened-server-requires-clause-first g c = first_fresh g.D.Disk.medium _ _ _ _ c.take_ends-first.ensures.items c.requires
+unopened-server-requires-clause-first g c = (all_fresh g.D.Disk.medium _ _ _ _ c.take_ends-first.ensures.items c.requires).0
 
 pub unopened-server-requires-clause-backup : goal.unopened-server-requires-clause-backup
-unopened-server-requires-clause-backup g c = last_fresh g.D.Disk.medium _ _ _ _ c.take_ends-first.ensures.items c.requires
+unopened-server-requires-clause-backup g c = (rest_fresh g.D.Disk.medium _ _ _ _ c.take_ends-first.ensures.items c.requires).1
 
 pub returns-in-Ok-clause-opens : goal.returns-in-Ok-clause-opens
 returns-in-Ok-clause-opens g c =
@@ -24,27 +24,20 @@ returns-in-Ok-clause-stands g c =
     record { machine = made.machine; stands = made.stands }
 
 pub returns-in-Ok-clause-has : goal.returns-in-Ok-clause-has
-returns-in-Ok-clause-has g c =
-    let it = g.D.Disk.medium in
-    record {
-      server = has_places it _ _ _ (server_placed it _ _ _ (c.open.ensures.beside _ _ c.unopened-server.ensures.beside));
-      clients = rw c.new.ensures.items tt;
-      room = omega (arith, c.take_ends-first.ensures.room, ap length c.new.ensures.items);
-    }
+returns-in-Ok-clause-has g c = (returns-in-Ok-clause-opens g c).has
 
 pub returns-in-Ok-clause-arms : goal.returns-in-Ok-clause-arms
 returns-in-Ok-clause-arms g c =
     opens_unarmed g.D.Disk.medium _ _ _ _ c.take_ends-first.ensures.items c.requires _ _ c.unopened-server.ensures.disk
-    c.unopened-server.ensures.beside c.open.ensures.beside c.open.ensures.disk _ _ c.new.ensures.items refl
+    c.open.ensures.beside c.open.ensures.disk _ _ c.new.ensures.items refl
 
 pub into_disks-first-requires : goal.into_disks-first-requires
 into_disks-first-requires g c =
-    let it = g.D.Disk.medium in
-    other_there it _
-    (has_places it _ _ _ (server_placed it _ _ _ (c.open.ensures.beside _ _ c.unopened-server.ensures.beside)))
+    other_there g.D.Disk.medium _ (follows g.D.Disk.medium _ _ _ _ c.take_ends-first.ensures.items c.requires _ _
+    c.unopened-server.ensures.disk c.open.ensures.beside c.open.ensures.disk).now
 
 pub returns-in-Err-clause-refused : goal.returns-in-Err-clause-refused
 returns-in-Err-clause-refused g c =
     gives_back g.D.Disk.medium _ _ _ _ c.take_ends-first.ensures.items c.requires _ _ c.unopened-server.ensures.disk
-    c.unopened-server.ensures.beside c.open.ensures.beside c.open.ensures.disk g.met.D.Disk.reads_is_image _ _ _ _
+    c.open.ensures.beside c.open.ensures.disk g.met.D.Disk.reads_is_image _ _ _ _
     c.into_disks-first.ensures c.put_ends.ensures (c.unopened-server.ensures.stands [] 0) c.open.ensures.records
