@@ -10,7 +10,7 @@ use Rattle.iot_laptop.proofs.NodesLaws.{is_awake, is_down, awake_stands}
 use Rattle.iot_standing.proofs.StatesLaws.{runs_is, waits_is}
 use Rattle.iot_machine.specs.Clients as clients
 use Rattle.iot_disk.specs.Disk.{Storing}
-use Rattle.iot_node.proofs.StepsToLaws as calls
+use Rattle.iot_machine.proofs.StepsLaws as calls
 use Rattle.iot_server_node.proofs.ServersLaws as servers
 use Rattle.iot_laptop.proofs.CallsLaws as laptops
 use Rattle.iot_laptop.proofs.RestartLaws as restarts
@@ -28,9 +28,11 @@ use Rattle.iot_machine.specs.Transactions as machine
 use Rattle.iot_judging.specs.Lists.{Follows}
 use Rattle.iot_judging.proofs.FollowingLaws.{follows_kept}
 use Rattle.iot_exchange.specs.Pairs.{Both, two, IsAt, UpStands, AnyStands, IsReadyWith, IsStandingWith, KeepsDisks, KeepsServed, PairStands}
-use Rattle.iot_exchange.specs.Pairs.{Does, DoesFrom, Steps}
+use Rattle.iot_machine.specs.Refining.{StepFrom}
+use Rattle.iot_exchange.specs.Pairs.{Does, DoesFrom}
 use Rattle.iot_exchange.specs.Queues.{SyncsNext}
-use Rattle.iot_exchange.proofs.StepsLaws.{answers_from, asks_from, at_each, behind, joined, quiet, refuses_from, says_from}
+use Rattle.iot_machine.proofs.StepsLaws.{at_each, joined, quiet}
+use Rattle.iot_exchange.proofs.StepsLaws.{answers_from, asks_from, behind, refuses_from, says_from}
 use Rattle.iot_exchange.proofs.StepsLaws.{then_from}
 use Rattle.iot_exchange.proofs.StepsLaws as steps
 
@@ -388,7 +390,7 @@ module _ {D : Type 0} {medium : Medium D} where
       {server : ServerNode D} {x y : List ℕ} {a : Option A} {names : List (List ℕ)} {c : ℕ} {pair : Pair} → Lifts one call
       → SamePlace old new → PairStands c (IsAt P names c) (ServerStands medium names) (two old server) pair
       → Follows (stamps_in new) pair.server.durable → StepsTo P Q one old new x y a
-      → Steps (PairStands c (IsAt Q names c) (ServerStands medium names)) call pair (two new server) x y a
+      → StepFrom (PairStands c (IsAt Q names c) (ServerStands medium names)) call pair (two new server) x y a
   lifted {a = a} {pair = pair} lifts place here follows it =
       let t = it.step pair.client here.client.is in
       let did = lifts.lift pair t.0 a t.1 t.3 in record {
@@ -399,25 +401,26 @@ module _ {D : Type 0} {medium : Medium D} where
         stands = in_place here t.4 place did.1 follows;
       }
 
-  module _ {A : Type 0} {scripts : List Declared} {one : Try Client A} {call : Try Pair A} {u v : Both D} {new : Laptop D} {x y : List ℕ} where
-    -- what it holds then still follows the server's list
-    pub by_call : {result : Result A Halt} → Lifts one call → KeepsDisks medium u v → SamePlace v.laptop new
-        → Unless result (OfEach medium scripts v (λ pair. Follows (stamps_in new) pair.server.durable))
-        → EndsAlone medium scripts one v.laptop new x y result → KeepsDisk medium (disk_in v.laptop) (disk_in new)
-        → Does medium scripts call v (two new v.server) x y result
-    by_call {result = Err NoMemory} lifts keeps place follows it more =
-        record { step = λ names c pair here. record { is = tt }; disks = keeps_more (keeps_now keeps) more }
-    by_call lifts keeps place follows it more = record {
-      step = λ names c pair here. record { is = lifted lifts place here (follows names c pair here) it.is };
-      disks = keeps_more (keeps_now keeps) more;
-    }
+  module _ {A : Type 0} {scripts : List Declared} {one : Try Client A} {call : Try Pair A} {u v : Both D} {new : Laptop D} {x y : List ℕ}
+    where
+      -- what it holds then still follows the server's list
+      pub by_call : {result : Result A Halt} → Lifts one call → KeepsDisks medium u v → SamePlace v.laptop new
+          → Unless result (OfEach medium scripts v (λ pair. Follows (stamps_in new) pair.server.durable))
+          → EndsAlone medium scripts one v.laptop new x y result → KeepsDisk medium (disk_in v.laptop) (disk_in new)
+          → Does medium scripts call v (two new v.server) x y result
+      by_call {result = Err NoMemory} lifts keeps place follows it more =
+          record { step = λ names c pair here. record { is = tt }; disks = keeps_more (keeps_now keeps) more }
+      by_call lifts keeps place follows it more = record {
+        step = λ names c pair here. record { is = lifted lifts place here (follows names c pair here) it.is };
+        disks = keeps_more (keeps_now keeps) more;
+      }
 
-    -- one that does not ask the server
-    pub by_client : {result : Result A Halt} → Lifts one call → KeepsDisks medium u v → SamePlace v.laptop new
-        → Unless result (KeepsTrails v.laptop new) → EndsAlone medium scripts one v.laptop new x y result
-        → KeepsDisk medium (disk_in v.laptop) (disk_in new) → Does medium scripts call v (two new v.server) x y result
-    by_client {result} lifts keeps place trails it more = by_call lifts keeps place
-        (unless_more result (λ kept names c pair here. follows_kept _ _ pair.server.durable kept here.follows) trails) it more
+      -- one that does not ask the server
+      pub by_client : {result : Result A Halt} → Lifts one call → KeepsDisks medium u v → SamePlace v.laptop new
+          → Unless result (KeepsTrails v.laptop new) → EndsAlone medium scripts one v.laptop new x y result
+          → KeepsDisk medium (disk_in v.laptop) (disk_in new) → Does medium scripts call v (two new v.server) x y result
+      by_client {result} lifts keeps place trails it more = by_call lifts keeps place
+          (unless_more result (λ kept names c pair here. follows_kept _ _ pair.server.durable kept here.follows) trails) it more
 
 -- ---- again and again
 
@@ -512,7 +515,7 @@ alive_is {medium = medium} {scripts} {laptop} {m} (awake here) = is_awake medium
 alive_is {medium = medium} {scripts} {laptop} {m} (fallen here) = is_down medium scripts laptop m here ∙ sym here.alive
 
 wholly : {W : Type 0} {P Q : W → Pair → Type 0} {call : Try Pair (Unit {0})} {o : Option (Unit {0})} {pair : Pair} {v : W} {x y : List ℕ}
-    → ((n : Pair) → P v n → Q v n) → Steps P call pair v x y o → Steps Q (Whole call) pair v x y tt
+    → ((n : Pair) → P v n → Q v n) → StepFrom P call pair v x y o → StepFrom Q (Whole call) pair v x y tt
 wholly less it = joined it (quiet _ (refl, refl) (less it.next it.stands))
 
 abbrev IsTask : {D : Type 0} → Medium D → List Declared → (names : List (List ℕ)) → (c : ℕ) → Try Pair (Unit {0}) → (u v : Both D)
@@ -533,13 +536,14 @@ module _ {D : Type 0} {medium : Medium D} {scripts : List Declared} {u : Both D}
     -- it says that it is down
     pub says_down : is_alive u.laptop ≡ false → y ≡ x ++ line (codes "down") → IsTask medium scripts names c call u u x y
     says_down down wrote =
-        steps.bind {a = false} (steps.asks (λ pair here. sym down ∙ alive_is here.client.is)) (calls.says u x y (λ pair here. wrote))
+        calls.bind {a = false} (calls.asks (λ pair here. sym down ∙ alive_is here.client.is)) (calls.says (λ pair here. wrote))
 
     module _ {v : Both D} {inner : Result (Unit {0}) Halt} (alive : is_alive u.laptop ≡ true)
         (it : Does medium scripts call u v x y inner) where
-      if_up : ((pair : Pair) → UpStands medium scripts names c u pair → Steps (AnyStands medium scripts names c) (Whole call) pair v x y tt)
+      if_up : ((pair : Pair) → UpStands medium scripts names c u pair
+          → StepFrom (AnyStands medium scripts names c) (Whole call) pair v x y tt)
           → IsTask medium scripts names c call u v x y
-      if_up each = steps.bind {a = true} (steps.asks (λ pair here. sym alive ∙ alive_is here.client.is))
+      if_up each = calls.bind {a = true} (calls.asks (λ pair here. sym alive ∙ alive_is here.client.is))
           (at_each (λ pair here. each pair (up_there alive here)))
 
       pub all_done : inner ≡ Ok tt → IsTask medium scripts names c call u v x y

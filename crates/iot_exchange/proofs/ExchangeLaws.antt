@@ -14,7 +14,8 @@ use Rattle.iot_exchange.specs.Words.{has_any, is_full, most_running}
 use Rattle.iot_exchange.specs.Words.{passage, Passage, Away, RequestLost, ReplyLost, Both as Reaches, At, its_server, break}
 use Rattle.iot_exchange.specs.Words.{Handles, exchange_by, Brings, holds, HavingAnswered, ServesBy, Served, Relinked, after_passage, Nodes}
 use Rattle.iot_exchange.specs.Words.{Item, Medium, Call, Declared, ClientState, Client, Commit, Pair, Node, Submission, Lends}
-use Rattle.iot_exchange.specs.Words.{Judges, Exchange, Holds, runs, pends, StepsTo, Halt, IsErrand, Errand, Refresh, base_of, SpellsVerdict, SpellsCut, said_of}
+use Rattle.iot_exchange.specs.Words.{Judges, Exchange, Holds, runs, pends, StepsTo, Halt, IsErrand, Errand, Refresh, base_of, SpellsVerdict}
+use Rattle.iot_exchange.specs.Words.{SpellsCut, said_of}
 use Rattle.iot_exchange.specs.Words.{ServerStands, IsHanded, IsNamedIn, is_up, Message, ServerNode, LaptopStands, state_in, waits_of}
 use Rattle.iot_exchange.specs.Words.{Laptop, SpellsTree, BringsTree, AsksAll, IsOneMessage, IsReply, IsWhole, Over, NoMemory}
 use Rattle.iot_exchange.specs.Words.{Stamps, TakesStamps, new_client, nodes_of, nothing_held, reply_spelling, stamps_in}
@@ -22,7 +23,7 @@ use Rattle.iot_exchange.specs.Words.{stamps_of}
 use Rattle.iot_exchange.specs.Pairs.{Both, two, IsAt, UpStands, Query, Objects, Judgment, AsksFor, Spells, request_of, Serves, Exchanges}
 use Rattle.iot_exchange.specs.Pairs.{Asked, Came, KeepsDisks, Does, IfReplied, answered}
 use Rattle.iot_exchange.proofs.DoesLaws.{StepsOn, in_place, OfEach, then_does, answers, by_call, notes, Unless}
-use Rattle.iot_exchange.proofs.StepsLaws.{bind, gets, asks}
+use Rattle.iot_machine.proofs.StepsLaws.{bind, gets, asks}
 use Rattle.iot_exchange.specs.Words.{Changes as ChangesAlone, KeepsDisk, Notes, SamePlace, disk_in}
 use Rattle.iot_machine.specs.Transactions.{counted}
 use Rattle.iot_kept.specs.Bringing.{brought}
@@ -286,7 +287,8 @@ module _ {D : Type 0} {medium : Medium D} {message : Message} {reply : Vec ℕ G
 
   module _ (client : ℕ) (held : Stamps) (tree : Nodes) (errand : Errand) (is : IsErrand client held errand message.request.items)
       (tree_is : tree ≡ nodes_of held)
-      (there : (scripts : List Declared) → OfEach medium scripts v (λ pair. Follows held pair.server.durable × IsTree (nodes_of held))) where
+      (there : (scripts : List Declared)
+      → OfEach medium scripts v (λ pair. Follows held pair.server.durable × IsTree (nodes_of held))) where
     -- its stamps are those of each list for which it stands then
     its_stamps : (scripts : List Declared) → OfEach medium scripts v (λ pair. stamps_of u.server ≡ (state_of pair.server.durable).stamps)
     its_stamps scripts names c pair here =
@@ -294,7 +296,8 @@ module _ {D : Type 0} {medium : Medium D} {message : Message} {reply : Vec ℕ G
         sym stays.stamps ∙ up_stamps medium names v.server pair.server pair.requests stays.up here.server
 
     abbrev replied : (scripts : List Declared) (names : List (List ℕ)) (c : ℕ)
-        → IfReplied (SpellsCut (stamps_of u.server) held errand) (Some reply) (StepsOn medium scripts names c (Exchange (Lends tree errand)) u v x y)
+        → IfReplied (SpellsCut (stamps_of u.server) held errand) (Some reply)
+        (StepsOn medium scripts names c (Exchange (Lends tree errand)) u v x y)
     replied scripts names c =
         (came.asked.is scripts names c (Objects client held (stamps_of u.server) tree errand) (is, refl, tree_is)).is
 

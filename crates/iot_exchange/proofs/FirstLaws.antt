@@ -32,7 +32,8 @@ use Rattle.iot_exchange.specs.Words.{IsByHand, Medium, Try, Declared, reach, res
 use Rattle.iot_exchange.specs.Words.{transaction_name, manual_line, resolve_line, Syncs, Verdict, Conflict, Halt, Over, Transaction}
 use Rattle.iot_exchange.specs.Words.{Message, waits_of, head_name, HandsIn, AsksAll, ItemsStand, state_in, LaptopStands, name_of}
 use Rattle.iot_exchange.specs.Words.{SpellsVerdict, told_change, SpellsTree, option_named, script_named, HasNamed, Laptop, ServerNode}
-use Rattle.iot_exchange.specs.Words.{nothing_held, Refresh, stamps_of, Changes, EndsAlone, Notes, NotesAlone, KeepsDisk, KeepsTrails, SamePlace, UnlessNoMemory, disk_in}
+use Rattle.iot_exchange.specs.Words.{nothing_held, Refresh, stamps_of, Changes, EndsAlone, Notes, NotesAlone, KeepsDisk, KeepsTrails}
+use Rattle.iot_exchange.specs.Words.{SamePlace, UnlessNoMemory, disk_in}
 use Rattle.iot_exchange.proofs.ExchangeLaws.{asks_whole, lent_whole, whole_errand}
 use Rattle.iot_exchange.proofs.FollowingLaws.{nodes_none}
 use Rattle.iot_exchange.specs.Pairs.{Both, two, UpStands, KeepsDisks, Objects, Judgment, MissesAll, Does, DoesFrom, AsksFor, Asked, Came}
@@ -207,7 +208,8 @@ module _ {D : Type 0} {medium : Medium D} {scripts : List Declared} {names : Lis
 module _ {D : Type 0} {medium : Medium D} {scripts : List Declared} {old : Both D} {x y : List ℕ} where
   pub syncs_none : (state_in old.laptop).items ≡ [] → KeepsDisks medium old old → y ≡ x ++ line (codes "nothing")
       → Does medium scripts Syncs old old x y (Ok Stays)
-  syncs_none none keeps wrote = each_from keeps (λ names c pair here. asks_from {next = sync_head} (none_here here none) (says_from wrote here))
+  syncs_none none keeps wrote = each_from keeps
+      (λ names c pair here. asks_from {next = sync_head} (none_here here none) (says_from wrote here))
 
   -- it waits for a decision by hand
   pub syncs_by_hand : {t : Transaction} → First IsByHand old.laptop t → KeepsDisks medium old old → y ≡ x ++ manual_line (name_of t)
@@ -400,7 +402,8 @@ module _ {D : Type 0} {laptop : Laptop D} {t : Transaction} (it : Submitted) (fi
   pub submits_away : {medium : Medium D} {scripts : List Declared} {mid : Both D} {x y z : List ℕ}
       → Asked medium (message_of it) None (two laptop server) mid x y → KeepsDisks medium (two laptop server) mid
       → z ≡ y ++ line (codes "away") → Does medium scripts Syncs (two laptop server) mid x z (Ok Unanswered)
-  submits_away {scripts = scripts} asked keeps wrote = each_from keeps (λ names c pair here. submits_from here first first.is.submitted (then_from
+  submits_away {scripts = scripts} asked keeps wrote = each_from keeps
+      (λ names c pair here. submits_from here first first.is.submitted (then_from
       (asked.is scripts names c (Judgment (submission_of (mi here first) pair)) (asks_judgment here first first.is)).is here
       (λ after there. says_from wrote there)))
 
@@ -416,7 +419,8 @@ module _ {D : Type 0} {laptop : Laptop D} {t : Transaction} (it : Submitted) (fi
         record { told = e.0; is = says_it here first first.is reply.items e.0 e.1 }
 
     -- what the reply says of it becomes of it
-    pub submits_told : {scripts : List Declared} {new : Laptop D} {z w : List ℕ} {inner : Result (Unit {0}) Halt} {result : Result Synced Halt}
+    pub submits_told : {scripts : List Declared} {new : Laptop D} {z w : List ℕ} {inner : Result
+        (Unit {0}) Halt} {result : Result Synced Halt}
         → KeepsDisks medium (two laptop server) mid
         → ((verdict : Verdict) (option : labels.OnConflict) → SpellsVerdict (head_reads (state_in laptop).items) reply.items verdict
         → head_option (state_in laptop).items ≡ Some option → Changes medium (told_change verdict option) mid.laptop new y z inner)
@@ -436,7 +440,8 @@ module _ {D : Type 0} {laptop : Laptop D} {t : Transaction} (it : Submitted) (fi
         ap head_option first.items ∙ ap (λ (l : labels.OnConflict). Some l) (head here first).stands.option in
         submits_from here first first.is.submitted (then_from e.2 here
         ((told_by e.0 m.option (name_there here first here) (after e.0 (option_named m.option) spells has
-        (by_client (notes (told_change e.0 (option_named m.option))) keeps place trails (does e.0 (option_named m.option) spells has scripts)
+        (by_client (notes (told_change e.0 (option_named m.option))) keeps place trails
+        (does e.0 (option_named m.option) spells has scripts)
         more))).step names c)))
 
 -- ---- the whole tree
@@ -533,12 +538,14 @@ module _ {D : Type 0} {laptop : Laptop D} {t : Transaction} (request : Vec ℕ G
         → IsCodeOf plan.script scripts code → Came medium (asking request) reply (two laptop server) mid x y
         → KeepsDisks medium (two laptop server) mid
         → ((t : Nodes) → SpellsTree nothing_held reply.items t → (scripts : List Declared) (p : Plan) → Plans medium scripts mid.laptop p
-        → p.script.code ≡ code → EndsAlone medium scripts (NotesAlone (reach (clients.Resolved (resolution_of p t)))) mid.laptop new y z inner)
+        → p.script.code ≡ code
+        → EndsAlone medium scripts (NotesAlone (reach (clients.Resolved (resolution_of p t)))) mid.laptop new y z inner)
         → SamePlace mid.laptop new → UnlessNoMemory inner (KeepsTrails mid.laptop new)
         → KeepsDisk medium (disk_in mid.laptop) (disk_in new)
         → ((p : Plan) (u : Nodes)
         → Does medium scripts (Notes (reach (clients.Resolved (resolution_of p u)))) mid (two new mid.server) y z inner
-        → Does medium scripts (NotesAloud (reach (clients.Resolved (resolution_of p u))) (resolve_line (name_of t) (resolver_said plan)) Moved)
+        → Does medium scripts
+        (NotesAloud (reach (clients.Resolved (resolution_of p u))) (resolve_line (name_of t) (resolver_said plan)) Moved)
         mid (two new mid.server) y w result)
         → Does medium scripts Syncs (two laptop server) (two new mid.server) x w result
     resolves_told {medium} {scripts} coded came keeps does place trails more after =

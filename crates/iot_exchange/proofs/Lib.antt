@@ -1,4 +1,3 @@
-pub mod GroupingLaws
 pub mod StepsLaws
 pub mod FollowingLaws
 pub mod DoesLaws

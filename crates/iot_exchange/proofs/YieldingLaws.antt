@@ -21,10 +21,10 @@ use Rattle.iot_exchange.specs.Words.{state_in, step_by, step_of, transaction_nam
 use Rattle.iot_laptop.specs.Calls.{YieldsAndChanges}
 use Rattle.iot_laptop.specs.declared.needs.Certified.{Certified}
 use Rattle.iot_laptop.specs.declared.needs.Certified.TheVariants as told
-use Rattle.iot_node.proofs.StepsToLaws as calls
+use Rattle.iot_machine.proofs.StepsLaws as calls
 use Rattle.iot_exchange.specs.Ending.{EndsAloud, ended_as}
 use Rattle.iot_exchange.specs.Pairs.{Both, Does, DoesFrom, IsReady, KeepsDisks, UpStands, two}
-use Rattle.iot_exchange.proofs.GroupingLaws.{looked, looks, regrouped, then_also}
+use Rattle.iot_machine.proofs.GroupingLaws.{looked, looks, regrouped, then_also}
 use Rattle.iot_exchange.proofs.StepsLaws.{also_from, answers_from, asks_from, gets_from, refuses_from, says_from}
 use Rattle.iot_exchange.proofs.DoesLaws.{Certifying, Unless, by_client, certifying, each_from, goes_from, goes_then, hands_on}
 use Rattle.iot_exchange.proofs.DoesLaws.{in_place, keeps_more, keeps_then, no_memory, noted, ready_by, still, then_answers, then_does}
@@ -112,7 +112,8 @@ module _ {D : Type 0} {medium : Medium D} {scripts : List Declared} (number : �
         also_from (λ text o n step. then_also {other = λ _. Then (Asks (λ pair. clients.numbered number (kept pair))) (step_of number loud)}
         (λ a front rest mid yields acts.
         let found : clients.numbered number (kept mid) ≡ Some one.it =
-        ap (λ (m : Pair). clients.numbered number (kept m)) yields.1 ∙ yields_of (clients.numbered number) number pair (pends pair) ∙ one.is in
+        ap (λ (m : Pair). clients.numbered number (kept m)) yields.1 ∙ yields_of (clients.numbered number) number pair (pends pair)
+        ∙ one.is in
         let next : next_of one.it mid ≡ Acts =
         ap (next_of one.it) yields.1 ∙ next_yielded one.it number pair ∙ is scripts pair.client one.it here.client.is one.is in
         looks {next = step_of number loud} (sym found) (looks {next = step_by number loud} (sym next) acts)) (regrouped step))
@@ -157,9 +158,10 @@ trails_found P (Err halt) so = so
 -- that it ends is said, and it is synced or waits by its class
 pub ends_aloud : {D : Type 0} {medium : Medium D} {scripts : List Declared} {u w : Both D} {x y z : List ℕ}
     {result : Result (Unit {0}) Halt} (gone : Gone) {b : Bool} → KeepsDisks medium u u → y ≡ x ++ end_line (ended_as gone).name
-    → gone.first ≡ b → Does medium scripts (syncs_or_waits (ended_as gone) b) u w y z result → Does medium scripts (EndsAloud (ended_as gone)) u w x z result
+    → gone.first ≡ b → Does medium scripts (syncs_or_waits (ended_as gone) b) u w y z result
+    → Does medium scripts (EndsAloud (ended_as gone)) u w x z result
 ends_aloud {u = u} {x = x} {y} gone keeps wrote is it =
-    then_does (λ names c. calls.says u x y (λ pair here. wrote)) keeps (rw (← is) at it)
+    then_does (λ names c. calls.says (λ pair here. wrote)) keeps (rw (← is) at it)
 
 abbrev pub after_found : Ended → Compared → Try Pair (Unit {0})
 after_found gone Same = EndsAloud gone

@@ -2,11 +2,13 @@
 use Rattle.std.specs.declared.alloc.Global.{Global}
 use Rattle.iot_tree.specs.declared.labels.OnConflict.{OnConflict}
 use Rattle.std.specs.Prelude.{◌+◌, ◌++◌, ◌≡◌, ◌≤◌}
-use Rattle.iot_exchange.specs.Words.{Option, Vec, ℕ, List, None, Some, Ok, Err, Over, NoMemory, Result, slice_get, Medium, Nodes, Want, IsRefresh, Call, Try, Errand, IsErrand}
+use Rattle.iot_exchange.specs.Words.{Option, Vec, ℕ, List, None, Some, Ok, Err, Over, NoMemory, Result, slice_get, Medium, Nodes, Want}
+use Rattle.iot_exchange.specs.Words.{IsRefresh, Call, Try, Errand, IsErrand}
 use Rattle.iot_exchange.specs.Words.{Declared, Client, Commit, Pair, Node, Submission, Verdict, Lends, Judges, Exchange, KeepsDisk, StepsTo}
 use Rattle.iot_exchange.specs.Words.{Halt, SpellsVerdict, SpellsCut, KeepsRecords, ServerStands, IsHanded, IsNamedIn, disk_of, Message}
 use Rattle.iot_exchange.specs.Words.{ServerNode, Stands, LaptopStands, ClientStands, disk_in, Laptop, Stamps, nodes_of, is_up, stamps_in}
 use Rattle.iot_exchange.specs.Words.{stamps_of, true, on_both, KeepsBeside}
+use Rattle.iot_machine.specs.Refining.{StepFrom}
 use Rattle.iot_judging.specs.Lists.{Follows}
 use Rattle.iot_standing.specs.Scripts.{IsMeant}
 
@@ -93,19 +95,11 @@ pub record IsStandingWith {D : Type 0} (medium : Medium D) (scripts : List Decla
 
 -- ---- what they do
 
--- from this machine the call says so much, answers this, and leaves a machine for which the world stands
-pub record Steps {W M A : Type 0} (after : W → M → Type 0) (call : Call M A) (m : M) (v : W) (x y : List ℕ) (a : A) : Type 0 where
-  pub text : List ℕ
-  pub next : M
-  pub wrote : y ≡ x ++ text
-  pub step : call m text a next
-  pub stands : after v next
-
 -- it goes on, and the world stands in the first way; or the event is over, and it stands in the second way
 abbrev pub EndsFrom : {W M A : Type 0} → (up down : W → M → Type 0) → Try M A → M → W → (x y : List ℕ) → Result A Halt → Type 0
-EndsFrom up down call m v x y (Ok a) = Steps up call m v x y (Some a)
+EndsFrom up down call m v x y (Ok a) = StepFrom up call m v x y (Some a)
 EndsFrom up down call m v x y (Err NoMemory) = Unit {0}
-EndsFrom up down call m v x y (Err Over) = Steps down call m v x y None
+EndsFrom up down call m v x y (Err Over) = StepFrom down call m v x y None
 
 pub record From {W M A : Type 0} (up down : W → M → Type 0) (call : Try M A) (m : M) (v : W) (x y : List ℕ) (result : Result A Halt) : Type
     0 where

@@ -47,7 +47,8 @@ pub use Rattle.iot_machine.specs.Clients.{begin}
 pub use Rattle.iot_machine.specs.Clients.{end, fetch, hold, leave, local_run, meant, most_running, new_client, next_away, next_by}
 pub use Rattle.iot_machine.specs.Clients.{next_step}
 pub use Rattle.iot_machine.specs.Clients.{plan_by, plan_of, reach, repair, resolution_of, so_far}
-pub use Rattle.iot_machine.specs.Events.{BeginsAloud, Closes, Discards, Drains, Hoards, IfUp, ReadsOf, Refreshes, Repairs, Runs, StepsAloud, Walks}
+pub use Rattle.iot_machine.specs.Events.{BeginsAloud, Closes, Discards, Drains, Hoards, IfUp, ReadsOf, Refreshes, Repairs, Runs, StepsAloud}
+pub use Rattle.iot_machine.specs.Events.{Walks}
 pub use Rattle.iot_machine.specs.Events.{begin_text, chosen, is_drained, place_text, run_line, run_steps, running_in, runs_through}
 pub use Rattle.iot_machine.specs.Events.{says_reads, step_text, task_part}
 pub use Rattle.iot_machine.specs.Machine.{Client, Commit, Pair, break, is_first, its_server, kept, no_script, script_at}
@@ -70,7 +71,7 @@ pub use Rattle.iot_machine.specs.Transactions.{sync_head}
 pub use Rattle.iot_machine.specs.Transactions.{sync_if, syncs_or_waits, told, took, unless_stopped, waits_unless, yield_if}
 pub use Rattle.iot_node.specs.Disks.{KeepsDisk}
 pub use Rattle.iot_node.specs.Lines.{name_of}
-pub use Rattle.iot_node.specs.Steps.{StepsTo}
+pub use Rattle.iot_machine.specs.Refining.{StepsTo}
 pub use Rattle.iot_node.specs.declared.halt.Halt.{Halt}
 pub use Rattle.iot_node.specs.declared.halt.Halt.TheVariants.{NoMemory, Over}
 pub use Rattle.iot_node.specs.declared.lines.Transaction.{Transaction}
@@ -84,7 +85,8 @@ pub use Rattle.iot_server_node.specs.declared.server.Served.{Served}
 pub use Rattle.iot_server_node.specs.declared.server.ServerNode.{ServerNode}
 pub use Rattle.iot_laptop.specs.Alone.{CertifiesAlone, ComparesAlone, NotesAlone, StartsAlone, YieldsAlone, YieldsAndNotes, certify_alone}
 pub use Rattle.iot_laptop.specs.Alone.{change_by, notes_found, set_class, yielding, yields_by}
-pub use Rattle.iot_laptop.specs.Calls.{AsksAll, Changes, EndsAlone, HandsIn, IsDoneIn, IsEndOf, IsGoneIfAny, IsHeadPlan, IsNext, NextIs, Plans}
+pub use Rattle.iot_laptop.specs.Calls.{AsksAll, Changes, EndsAlone, HandsIn, IsDoneIn, IsEndOf, IsGoneIfAny, IsHeadPlan, IsNext, NextIs}
+pub use Rattle.iot_laptop.specs.Calls.{Plans}
 pub use Rattle.iot_standing.specs.States.{IsOver, IsUnended}
 pub use Rattle.iot_laptop.specs.Calls.{TakesStep, acts_in, compared, compared_if, decision, decision_on, done, head_name, head_reads}
 pub use Rattle.iot_standing.specs.States.{head_option, head_plan}

@@ -28,7 +28,7 @@ use Rattle.iot_standing.specs.States.{StateStands, head_option, told_change}
 use Rattle.iot_client.proofs.TrailsLaws.{same_changes}
 use Rattle.iot_machine.proofs.PossiblyLaws.{possibly_sure, appends_possibly}
 use Rattle.iot_node.proofs.PostsLaws.{same_counts}
-use Rattle.iot_node.proofs.StepsToLaws.{bind, answers}
+use Rattle.iot_machine.proofs.StepsLaws.{bind, answers}
 use Rattle.iot_changes.specs.declared.changes.Change.{Change}
 use Rattle.iot_changes.specs.declared.changes.Change.TheVariants.{Repaired, Left}
 use Rattle.iot_client.specs.Calls.{CutsOff, Brings, CutsOffByTree, CutsOffByVerdict, CutsOffByRun, Resolves}
@@ -276,20 +276,20 @@ module _ {D T : Type 0} {medium : Medium D} {laptop : Laptop D} {was now : Clien
         → StepsTo (Known medium scripts s lives) (λ l m. LaptopStands medium scripts l (record m { first = class m.first }))
         (NotesAlone next) laptop new x y (Some tt)
     notes_at t same note live =
-        bind laptop new new x y y true (Some tt)
+        bind {a = true}
         (goes_at scripts (Known medium scripts s lives) next (λ m here. here.before) change kept_then
         {after_it = λ l m. LaptopStands medium scripts l (record m { first = class m.first })} t same note (λ m here post there is.
         let it = kept m here note.follows in
         awake_at medium scripts laptop m here.name here.link post (changed next m.node) there here.alive (class m.first)
         (is ∙ live ∙ it.runs) it.named))
-        (answers new new y (Some tt) (λ m here. here))
+        (answers (λ m here. here))
 
     pub notes_halt : result ≡ Err Over → cuts change
         → StepsTo (Known medium scripts s lives) (ClientStands medium scripts) (NotesAlone next) laptop new x y None
     notes_halt same cut =
-        bind laptop new new x y y false None
+        bind {a = false}
         (halts_at scripts (Known medium scripts s lives) next (λ m here. here.before) change kept_then same cut)
-        (answers new new y None (λ m here. here))
+        (answers (λ m here. here))
 
   -- ---- one that has not yielded
 

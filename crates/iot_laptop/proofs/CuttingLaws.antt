@@ -16,7 +16,7 @@ use Rattle.iot_laptop.specs.Laptops.{ClientStands, KeepsTrails, awake, live_by, 
 use Rattle.iot_laptop.specs.Seats.{begun_of, seating}
 use Rattle.iot_machine.specs.Events.{cuts_off}
 use Rattle.iot_machine.specs.Texts.{cut_line}
-use Rattle.iot_node.proofs.StepsToLaws.{bind, nothing, says}
+use Rattle.iot_machine.proofs.StepsLaws.{bind, nothing, says}
 use Rattle.iot_standing.proofs.KeptLaws.{cut_kept, cut_named, idle_is, idle_runs, longest}
 use Rattle.iot_standing.proofs.RunsLaws.{none_live}
 use Rattle.iot_standing.specs.Kept.{RunKept, StateKept}
@@ -81,7 +81,7 @@ module _ {D : Type 0} {medium : Medium D} {laptop : Laptop D} {was now : Client 
         let runs : AreRuns [] was.interpreters.items =
         subst (λ (running : List Transaction). AreRuns running was.interpreters.items) none call.was_tied.runs in
         let live : live_by laptop.post ≡ [] = ap live_by call.up ∙ none_live (classes_in was) was.interpreters.items runs in
-        (nothing {stands = ClientStands medium scripts} laptop x).step m (awake
+        (nothing {P = ClientStands medium scripts} {u = laptop} {x = x}).step m (awake
         (awake_at medium scripts laptop m h.here.name h.here.link laptop.post m.node h.here.node h.here.alive m.first
         (live ∙ idle_runs m.first s m.node.durable none kept) h.here.named));
   }
@@ -165,15 +165,15 @@ module _ {D : Type 0} {medium : Medium D} {laptop : Laptop D} {was now : Client 
       let same = same_Some told (first.own.number, first.it.acts) first.it.is in
       let line : List ℕ = cut_line (transaction_name new.name told.0) told.1 in
       finds first.own first.rest first.ran first.it.acts first.it.notes.follows last z (λ scripts it later named.
-      bind laptop new last x y z true tt
+      bind {a = true}
       (writes first.own first.rest first.ran first.it.acts {stands = Back medium scripts (it ∷ later)}
       {after_it = Back medium scripts later}
       scripts (Some told) ok first.it.notes (λ m h. h.here) (λ m h post here. record {
         here = here;
         runs = ap (λ (running : List clients.Running). (clients.cut_by first.it.acts running m.node.durable).running) h.runs;
       }))
-      (bind new new last y (y ++ line) z tt tt
-      (says new y (y ++ line) (λ m h.
+      (bind {a = tt}
+      (says (λ m h.
       λ i. y ++ cut_line (transaction_name (h.here.name i) ((ap (λ (t : ℕ × ℕ). t.0) same ∙ named) i)) ((same i).1)))
       (all scripts later)))
   cut_by (Ok None) ok = let none = left_so ok in rw (none.1, none.2) (none_cut none.0)
@@ -185,10 +185,10 @@ module _ {D : Type 0} {medium : Medium D} {laptop : Laptop D} {was now : Client 
       by [] ran cut = absurd cut
       by (own ∷ rest) ran off =
           finds own rest ran off.acts off.cuts_off.follows new y (λ scripts it later named.
-          bind laptop new new x y y false tt
+          bind {a = false}
           (halts_at call scripts (Back medium scripts (it ∷ later)) (cut off.acts) (λ m h. h.here.before) (Cut own.number off.acts)
           (λ m h. kept_then own rest ran off.acts scripts m h.here) over off.cuts_off)
-          (nothing new y))
+          nothing)
 
   -- it has come back still
   pub returns_by : Returned medium laptop → (r : Result (Option (ℕ × ℕ)) Halt) → result ≡ r → OnOk r (Returned medium new)

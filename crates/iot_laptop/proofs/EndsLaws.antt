@@ -23,7 +23,7 @@ use Rattle.iot_laptop.specs.Below.{stamps_of}
 use Rattle.iot_laptop.specs.Laptops.{LaptopStands, ClientStands, KeepsTrails, state_by, state_in, live_in}
 use Rattle.iot_machine.specs.Transactions.{Compared, Same}
 use Rattle.iot_machine.specs.Calls.{Answers, Then, unless_over}
-use Rattle.iot_node.proofs.StepsToLaws.{answers, bind}
+use Rattle.iot_machine.proofs.StepsLaws.{answers, bind}
 use Rattle.iot_node.specs.Steps.{EndsBy}
 use Rattle.iot_standing.proofs.KeptLaws.{again_live, ended_live, ended_waits, same_reads, parts as reads_part}
 use Rattle.iot_standing.proofs.RunsLaws.{SoOf, kept_as, kept_both, number_found, own_number, so_of}
@@ -127,7 +127,7 @@ module _ {D : Type 0} {medium : Medium D} {laptop : Laptop D} {was now : Client 
       step = λ m here.
           let there = known_yielded call number scripts m here in
           let k = kept_as number s.running m.node.durable.running (known_then call number scripts m here).kept.running own found in
-          let t = (bind laptop end end x z z noted (option_map (λ _. what) noted) notes (goes noted)).step (yielding number m) there in
+          let t = (bind {a = noted} notes (goes noted)).step (yielding number m) there in
           let durable : (yielding number m).node.durable ≡ m.node.durable =
           ap (λ (k : machine.Client). k.node.durable) (yielding_is number m) in (
             t.0,
@@ -145,8 +145,8 @@ module _ {D : Type 0} {medium : Medium D} {laptop : Laptop D} {was now : Client 
       where
         goes : (a : Option (Unit {0}))
             → StepsTo after_it after_it (unless_over (λ _. Answers (Some what)) a) end end z z (option_map (λ _. what) a)
-        goes None = answers end end z None (λ m here. here)
-        goes (Some u) = answers end end z (Some what) (λ m here. here)
+        goes None = answers (λ m here. here)
+        goes (Some u) = answers (λ m here. here)
 
     -- what holds on the view, ..
     same_there : CanFollow s (Ended own.number) → (m : ClientState) → StateKept s m → (it : clients.Running) → RunningKept own it

@@ -16,7 +16,7 @@ use Rattle.iot_laptop.specs.Below.{new_client, Node, unopened, Refines, Possibly
 use Rattle.iot_laptop.specs.Below.{counts_on, IsEmpty, is_on, PostStands, CameIf, StepsTo, Post, Up, Down}
 use Rattle.iot_laptop.specs.Below.{no_text, Laptop, Seated, Passage, FarDir}
 use Rattle.iot_link.specs.Links.{LinkState, after_exchange, connected}
-use Rattle.iot_node.proofs.StepsToLaws.{bind, asks, says_this, nothing}
+use Rattle.iot_machine.proofs.StepsLaws.{bind, asks, says_this, nothing}
 use Rattle.iot_count.specs.Counts.{Rose}
 use Rattle.iot_machine.specs.Calls.{Asks, Does, Part, Then, goes_on}
 use Rattle.iot_machine.specs.Stops.{ComesBack, Crashes, ArmsDisk}
@@ -26,7 +26,7 @@ use Rattle.iot_node.specs.Posts.{IsStanding, Ready, words_of}
 use Rattle.iot_node.specs.declared.comeback.Comeback.TheVariants.{Restart}
 use Rattle.iot_machine.specs.Events.{CutsOff, RestartsClient, Disconnects, CrashesClient, ArmsClient}
 use Rattle.iot_link.specs.declared.passages.Passage.TheVariants.{Away, RequestLost, ReplyLost, Both}
-use Rattle.iot_node.proofs.StepsLaws.{does, refines}
+use Rattle.iot_machine.proofs.StepsLaws.{does}
 use Rattle.iot_node.proofs.PostsLaws.{on_is}
 use Rattle.iot_disk.specs.declared.disk.Pick.{Pick}
 use Rattle.iot_tree.proofs.RowLaws.{root_rows, root_map}
@@ -80,7 +80,7 @@ module _ {D : Type 0} (medium : Medium D) (laptop : Laptop D) where
       → OnOk r ((scripts : List Declared)
       → Refines (ClientStands medium scripts) (Does (λ m. line m.name) (λ m. record m { link = change m.link }))
       laptop (record laptop { link = link }) x y tt)
-  relinks r change line link x y is = on_ok_weaker r (λ wrote scripts. does laptop (record laptop { link = link }) x y (λ m here. (
+  relinks r change line link x y is = on_ok_weaker r (λ wrote scripts. does (λ m here. (
     wrote ∙ ap (λ (n : List ℕ). x ++ line n) (same_name medium scripts laptop m here),
     subst (λ (l : LinkState). ClientStands medium scripts (record laptop { link = link }) (record m { link = l }))
         (is ∙ ap change (same_link medium scripts laptop m here)) (linked link scripts m here),
@@ -89,7 +89,7 @@ module _ {D : Type 0} (medium : Medium D) (laptop : Laptop D) where
   pub disconnects : {E : Type 0} (r : Result (Unit {0}) E) (mid : Laptop D) (x y : List ℕ) → IsCutLink medium laptop mid
       → OnOk r (y ≡ x ++ disconnect_line mid.name)
       → OnOk r ((scripts : List Declared) → Refines (ClientStands medium scripts) Disconnects laptop mid x y tt)
-  disconnects r mid x y cut = on_ok_weaker r (λ wrote scripts. does laptop mid x y (λ m here. (
+  disconnects r mid x y cut = on_ok_weaker r (λ wrote scripts. does (λ m here. (
     wrote ∙ ap (λ (n : List ℕ). x ++ disconnect_line n) (cut.name ∙ same_name medium scripts laptop m here),
     cut.stands scripts m here,
   )))
@@ -172,8 +172,7 @@ module _ {D : Type 0} (medium : Medium D) (laptop : Laptop D) (post : Post (Seat
       → call laptop.name m.node text tt n → Posted medium laptop post n → ClientStands medium scripts next (record m { node = n }))
       → Refines (ClientStands medium scripts) (Then (Asks (λ m. m.name)) (λ name. At machine.node (call name))) laptop next x y tt
   by_name scripts call x y it each =
-      refines
-      (bind laptop laptop next x x y laptop.name tt (asks laptop x laptop.name (same_name medium scripts laptop))
+      (bind {a = laptop.name} (asks (same_name medium scripts laptop))
       (at_node medium laptop post call (λ _. laptop.name) x y tt
       (λ m here. (refl, it.step m.node (node_stands medium scripts laptop m here))) each))
 
@@ -278,7 +277,6 @@ module _ {D : Type 0} (medium : Medium D) (laptop : Laptop D) (new : IsUnopened 
     pub opens : (scripts : List Declared)
         → Refines (ClientStands medium scripts) OpensClient laptop (record laptop { post = post }) x y on
     opens scripts =
-        refines
         (at_node medium laptop post OpensNode (λ m. m.name) x y on
         (λ m here. (same_name medium scripts laptop m here, it.step m.node (node_stands medium scripts laptop m here)))
         (λ m here n text step stands.
@@ -306,9 +304,8 @@ module _ {D : Type 0} (medium : Medium D) (old : Laptop D) where
   pub says_up : (x z : List ℕ) → is_alive old ≡ true → z ≡ x ++ line (codes "up") → (scripts : List Declared)
       → Refines (ClientStands medium scripts) RestartsClient old old x z tt
   says_up x z up wrote scripts =
-      refines
-      (bind old old old x x z true tt (asks old x true (λ m here. sym (awake_stands medium scripts old m up here).alive))
-      (says_this (line (codes "up")) old x z wrote))
+      (bind {a = true} (asks (λ m here. sym (awake_stands medium scripts old m up here).alive))
+      (says_this wrote))
 
   pub is_standing : StandsAnyhow medium old → IsStanding (seating medium old.place) medium old.post
   is_standing stands =
@@ -339,8 +336,8 @@ module _ {D : Type 0} (medium : Medium D) (old : Laptop D) where
         → Refines (ClientStands medium scripts) RestartsClient old new x z tt
     comes {on} back scripts first new z rest =
         let whole : StepsTo (FallenStands medium scripts) (ClientStands medium scripts) RestartsClient old new x z tt =
-        bind old old new x x z false tt (asks old x false (λ m down. sym down.alive))
-        (bind old old new x x z old.name tt (asks old x old.name (λ m down. down.name)) (bind old mid new x y z on tt first rest)) in
+        bind {a = false} (asks (λ m down. sym down.alive))
+        (bind {a = old.name} (asks (λ m down. down.name)) (bind {a = on} first rest)) in
         record { step = λ m here. whole.step m (fallen_stands medium scripts old m back.off here) }
 
     -- ---- it has stopped again
@@ -349,7 +346,7 @@ module _ {D : Type 0} (medium : Medium D) (old : Laptop D) where
       pub stops_again : (scripts : List Declared) → Refines (ClientStands medium scripts) RestartsClient old mid x y tt
       stops_again scripts =
           comes back scripts (steps_back back scripts (λ m down n stands named.
-          fallen_at medium scripts old m down.name down.link post n stands (alive_is back n stands) named)) mid y (nothing mid y)
+          fallen_at medium scripts old m down.name down.link post n stands (alive_is back n stands) named)) mid y (nothing)
 
       pub came_again : (scripts : List Declared) (m : machine.Client) → ClientStands medium scripts old m → Came medium old x y m
       came_again scripts m here =

@@ -21,7 +21,7 @@ use Rattle.iot_machine.specs.Calls.{Asks}
 use Rattle.iot_laptop.specs.Laptops.{LaptopStands, ClientStands}
 use Rattle.iot_machine.specs.Machine.{classed}
 use Rattle.iot_machine.specs.Transactions.{has_any}
-use Rattle.iot_node.proofs.StepsToLaws.{answers, asks, bind}
+use Rattle.iot_machine.proofs.StepsLaws.{answers, asks, bind}
 use Rattle.iot_node.specs.Steps.{EndsBy}
 use Rattle.iot_standing.proofs.KeptLaws.{KeptLive, begun_live, stands_so, yielded_live, yields}
 use Rattle.iot_standing.proofs.StatesLaws.{one_is}
@@ -134,7 +134,7 @@ module _ {D : Type 0} {medium : Medium D} {laptop : Laptop D} {was now : Client 
 
       asked : StepsTo (LaptopStands medium scripts) (LaptopStands medium scripts) (Asks (λ m. m.node.durable.last + 1)) laptop laptop x x
           given
-      asked = asks laptop x given (λ m here. ap (λ (n : ℕ). n + 1) (known_was call scripts m here).kept.kept.last)
+      asked = asks (λ m here. ap (λ (n : ℕ). n + 1) (known_was call scripts m here).kept.kept.last)
 
       by : (r : Result ℕ Halt) → result ≡ r
           → EndsBy (LaptopStands medium scripts) (ClientStands medium scripts) (StartsAlone script on_conflict first) laptop new x y r
@@ -142,17 +142,17 @@ module _ {D : Type 0} {medium : Medium D} {laptop : Laptop D} {was now : Client 
           let ok = answered_so call t is in
           let its : t ≡ given = IfOk-at_ok _ ok numbers in
           rw its
-          (bind laptop laptop new x x y given (Some given) asked
-          (bind laptop new new x y y (Some tt) (Some given)
+          (bind {a = given} asked
+          (bind {a = (Some tt)}
           (from_known call scripts new y (Some tt)
           (notes_at call scripts (live_of was) later (begin script on_conflict) (classed given first) (Begun given script.name option) kept
           t is (rw its at (IfOk-at_ok _ ok notes)) (IfOk-at_ok _ ok lives)))
           (record { step = λ m here. ([], set_class given first m, sym (append-nil y), (refl, refl, refl), here) })))
       by (Err NoMemory) is = tt
       by (Err Over) is =
-          bind laptop laptop new x x y given None asked
-          (bind laptop new new x y y None None
+          bind {a = given} asked
+          (bind {a = None}
           (from_known call scripts new y None
           (notes_halt call scripts (live_of was) later (begin script on_conflict) (classed given first) (Begun given script.name option)
           kept is (stops (call.goes.stopped is))))
-          (answers new new y None (λ m here. here)))
+          (answers (λ m here. here)))

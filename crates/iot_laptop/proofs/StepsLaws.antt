@@ -20,7 +20,7 @@ use Rattle.iot_standing.specs.States.{next_as}
 use Rattle.iot_laptop.proofs.CallsLaws.{Called, Known, answered_so, notes_at, notes_halt}
 use Rattle.iot_laptop.proofs.ClassesLaws.{reclasses}
 use Rattle.iot_laptop.proofs.TrailsLaws.{goes_trails}
-use Rattle.iot_node.proofs.StepsToLaws.{bind}
+use Rattle.iot_machine.proofs.StepsLaws.{bind}
 use Rattle.iot_client.specs.declared.steps.Step.TheVariants as steps
 use Rattle.iot_machine.specs.Clients as clients
 use Rattle.iot_machine.specs.Machine as machine
@@ -73,7 +73,7 @@ module _ {D : Type 0} {medium : Medium D} {laptop : Laptop D} {was now : Client 
   steps_by (Ok (steps.Acted acts_done ended)) same =
       let it = did (steps.Acted acts_done ended) same in λ scripts. record {
         is =
-            bind laptop laptop new x x y tt (Some tt) (yields_at call number scripts)
+            bind {a = tt} (yields_at call number scripts)
             (notes_at call scripts known known (act_once number) (λ b. b) (Acted it.own.number it.so.act)
             (acts (λ it first code. StepIs was it first code (steps.Acted acts_done ended) now) it it.so.act it.so.can it.so.next scripts)
             (steps.Acted acts_done ended) same it.so.notes (IfOk-at_ok _ (answered_so call (steps.Acted acts_done ended) same) lives));
@@ -99,7 +99,7 @@ module _ {D : Type 0} {medium : Medium D} {laptop : Laptop D} {was now : Client 
   steps_by (Err Over) same =
       let it = halted same in λ scripts. record {
         is =
-            bind laptop laptop new x x y tt None (yields_at call number scripts)
+            bind {a = tt} (yields_at call number scripts)
             (notes_halt call scripts known known (act_once number) (λ b. b) (Acted it.own.number it.so.act)
             (acts (λ it first code. CutsOffNext it first code s (records_of was) (medium.may_leave (disk_of now))) it it.so.act it.so.can
             it.so.next scripts) same it.so.cuts_off);

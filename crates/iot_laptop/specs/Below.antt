@@ -32,7 +32,7 @@ pub use Rattle.iot_node.specs.Disks.{IsEmpty, KeepsDisk, counts_on}
 pub use Rattle.iot_node.specs.Keeping.{Appended, Keeping}
 pub use Rattle.iot_node.specs.Lines.{name_of}
 pub use Rattle.iot_node.specs.Posts.{CameIf, Answered, StepsFrom, PostStands, UpStands, is_on, is_fallen, words_of}
-pub use Rattle.iot_node.specs.Steps.{StepsTo}
+pub use Rattle.iot_machine.specs.Refining.{StepsTo}
 pub use Rattle.iot_node.specs.declared.halt.Halt.{Halt}
 pub use Rattle.iot_node.specs.declared.halt.Halt.TheVariants.{NoMemory, Over}
 pub use Rattle.iot_node.specs.declared.post.Post.{Post}

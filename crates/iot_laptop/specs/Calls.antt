@@ -24,7 +24,8 @@ use Rattle.iot_disk.specs.declared.faults.JournalFault.{JournalFault}
 use Rattle.iot_machine.specs.Clients.{Next}
 use Rattle.iot_machine.specs.Events.{cuts_off}
 use Rattle.iot_machine.specs.Texts.{cut_line}
-use Rattle.iot_node.specs.Steps.{StepsTo, Ends}
+use Rattle.iot_node.specs.Steps.{Ends}
+use Rattle.iot_machine.specs.Refining.{StepsTo}
 use Rattle.iot_tree.specs.declared.want.Want.TheVariants as wanted
 use Rattle.iot_queue.specs.declared.items.Stage.TheVariants as stages
 use Rattle.iot_resolve.specs.Plans as resolves

@@ -1,3 +1,5 @@
+pub mod StepsLaws
+pub mod GroupingLaws
 pub mod KeepsLaws
 pub mod FollowsLaws
 pub mod PossiblyLaws

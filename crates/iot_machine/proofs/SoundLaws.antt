@@ -38,7 +38,8 @@ use Rattle.iot_machine.proofs.PossiblyLaws.{comes_as_within}
 use Rattle.iot_machine.proofs.PossiblyLaws.{Continues, within_continues, appends_continues, crashes_within, restarts_within, arms_within}
 use Rattle.iot_machine.proofs.PossiblyLaws.{shows_within}
 use Rattle.iot_machine.proofs.CountingLaws.{steady, appends_once, appends_steady, opens_once, comes_once, comes_steady, crashes_once}
-use Rattle.iot_machine.proofs.CountingLaws.{comes_as_once, restarts_once, shows_once, since_itself, SameRest, since_server, since_put, put_at}
+use Rattle.iot_machine.proofs.CountingLaws.{comes_as_once, restarts_once, shows_once, since_itself, SameRest, since_server, since_put}
+use Rattle.iot_machine.proofs.CountingLaws.{put_at}
 use Rattle.iot_machine.proofs.MachinesLaws.{sound_from, put_sound, new_numbered, added_sound, added_at}
 use Rattle.iot_machine.proofs.PairLaws.{Core, core, IsListedAt, IsPairSound, IsGood as IsPairGood, IsAwake}
 use Rattle.iot_machine.proofs.CallsLaws.{Wakes, task_wakes}

@@ -1,3 +1,1 @@
-pub mod StepsLaws
-pub mod StepsToLaws
 pub mod PostsLaws

@@ -7,13 +7,13 @@ use Rattle.iot_node.specs.Prelude.{Rose, Storing, armed_with, Pick, StartFault, 
 use Rattle.iot_node.specs.Prelude.{back, armed, Refines, line, stopped_line, stop_line, Doubt, Fallen, Post, Up, Down, Between, next}
 use Rattle.iot_disk.specs.declared.faults.JournalFault.TheVariants as append
 use Rattle.iot_disk.specs.declared.faults.StartFault.TheVariants as start
+use Rattle.iot_machine.proofs.StepsLaws.{asks, bind, does, says_this}
 use Rattle.iot_machine.specs.Stops.{IsStopped, OpensNode, Appends, SettlesAs, ComesBackAs, Crashes, ArmsDisk}
 use Rattle.iot_node.specs.Disks.{counts_on, KeepsImages}
 use Rattle.iot_node.specs.Keeping.{Keeping, EachIs, Failed, IsEither, CanStart, HoldSame, Comes, Fails, Armed, Appended, Doubts}
 use Rattle.iot_node.specs.Keeping.{CountsStart}
 use Rattle.iot_node.specs.Posts.{is_on, disk_of, Ready, back_said, UpStands, HoldsBy, DownStands, PostStands, StepsFrom, HoldsEither, Lasts}
 use Rattle.iot_node.specs.Posts.{CameIf, IsStanding}
-use Rattle.iot_node.proofs.StepsLaws.{bind, asks, does, says_this}
 
 pub on_has : {K D : Type 0} (post : Post K D) → is_on post ≡ true → (keeper : K) × (post ≡ Up keeper)
 on_has (Up keeper) up = (keeper, refl)
@@ -115,15 +115,14 @@ module _ {K S D I : Type 0} (keeping : Keeping K S D I) (medium : Storing D I) (
   pub post_crash_down : {post : Post K D} (name : List ℕ) {x y : List ℕ} → is_on post ≡ false → y ≡ x ++ line (codes "down")
       → Refines Stands (Crashes name) post post x y tt
   post_crash_down {post = post} name down wrote =
-      bind post post post _ _ _ false tt (asks post _ false (λ node here. sym (on_is post node here ∙ down))) (says_this _ post _ _ wrote)
+      bind {a = false} (asks (λ node here. sym (on_is post node here ∙ down))) (says_this wrote)
 
   pub post_crash_up : {keeper : K} (name : List ℕ) {x y : List ℕ}
       → ((n : ℕ) (s : S) → keeping.stands keeper n s → EachIs (medium.may_leave (keeping.disk keeper)) (λ image. keeping.image image n s))
       → y ≡ x ++ line (codes "crash " ++ name)
       → Refines Stands (Crashes name) (Up keeper) (Down (record { disk = keeping.disk keeper; doubt = None })) x y tt
   post_crash_up {keeper = keeper} name images wrote =
-      bind (Up keeper) (Up keeper) (Down _) _ _ _ true tt (asks (Up keeper) _ true (λ node here. sym here.alive))
-      (does (Up keeper) (Down _) _ _ (λ node here. (
+      bind {v = Up keeper} {a = true} (asks (λ node here. sym here.alive)) (does (λ node here. (
         wrote,
         record {
           alive = refl;
@@ -247,7 +246,7 @@ module _ {K S D I : Type 0} (keeping : Keeping K S D I) (medium : Storing D I) (
       → ((n : ℕ) (s : S) → keeping.stands old n s → keeping.stands new n s)
       → Armed medium calls pick (keeping.disk old) (keeping.disk new) → y ≡ x ++ stop_line name calls pick
       → Refines Stands (ArmsDisk name calls pick) (Up old) (Up new) x y tt
-  post_arms_up {old} {new} {calls} {pick} name still it wrote = does (Up old) (Up new) _ _ (λ node here. (
+  post_arms_up {old} {new} {calls} {pick} name still it wrote = does (λ node here. (
     wrote,
     record {
       alive = here.alive;
@@ -264,7 +263,7 @@ module _ {K S D I : Type 0} (keeping : Keeping K S D I) (medium : Storing D I) (
       → Refines Stands (ArmsDisk name calls pick) (Down (record { disk = old; doubt = doubt }))
       (Down (record { disk = new; doubt = doubt }))
       x y tt
-  post_arms_down {old} {new} {doubt} {calls} {pick} name same it wrote = does (Down _) (Down _) _ _ (λ node here. (
+  post_arms_down {old} {new} {doubt} {calls} {pick} name same it wrote = does (λ node here. (
     wrote,
     record {
       alive = here.alive;

@@ -7,7 +7,7 @@ pub use Rattle.iot_disk.specs.declared.faults.JournalFault.{JournalFault}
 pub use Rattle.iot_disk.specs.declared.faults.StartFault.{StartFault}
 pub use Rattle.iot_machine.specs.Calls.{Answers, Asks, Call, Does, Nothing, Says, Then}
 pub use Rattle.iot_machine.specs.Nodes.{Counts, Node, armed, back, changed, doubting, opened}
-pub use Rattle.iot_machine.specs.Refining.{Refines}
+pub use Rattle.iot_machine.specs.Refining.{Refines, StepsTo}
 pub use Rattle.iot_machine.specs.Texts.{kept_as, line, lost_as, stop_line, stopped_line, transaction_name, pick_text}
 pub use Rattle.iot_node.specs.declared.comeback.Comeback.{Comeback}
 pub use Rattle.iot_node.specs.declared.halt.Halt.{Halt}

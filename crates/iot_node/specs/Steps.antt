@@ -1,11 +1,5 @@
 -- How a call of the code goes that may end its event.
-use Rattle.std.specs.Prelude.{◌≡◌, ◌++◌}
-use Rattle.iot_node.specs.Prelude.{ℕ, List, Option, None, Some, Result, Ok, Err, Call, Halt, NoMemory, Over}
-
--- A step by this call from each machine for which the old world stands in the first way, to one for which the new world stands in the
--- second way.
-pub record StepsTo {W M A : Type 0} (before after : W → M → Type 0) (call : Call M A) (old new : W) (x y : List ℕ) (a : A) : Type 0 where
-  pub step : (m : M) → before old m → (text : List ℕ) × (n : M) × (y ≡ x ++ text) × call m text a n × after new n
+use Rattle.iot_node.specs.Prelude.{ℕ, List, Option, None, Some, Result, Ok, Err, Call, StepsTo, Halt, NoMemory, Over}
 
 -- It goes on, and the node is up; or the event is over, and the node may be down. Nothing is said if memory ran out.
 abbrev pub EndsBy : {W M A : Type 0} → (up down : W → M → Type 0) → Call M (Option A) → (old new : W) → (x y : List ℕ) → Result A Halt

@@ -4,7 +4,7 @@ pub use Rattle.std.proofs.Common.{false, if◌then◌else◌, inl, inr, length, 
 pub use Rattle.std.proofs.Common.{take, true, zero, ℕ, ◌%◌, ◌++◌, ◌+◌, ◌-◌, ◌<◌, ◌^◌, ◌∙◌, ◌∷◌, ◌≡◌, ◌⊎◌}
 pub use Rattle.std.proofs.lemmas.List.{append-nil, length-append, length-map, map-append}
 pub use Rattle.iot_node.proofs.PostsLaws.{same_counts}
-pub use Rattle.iot_node.proofs.StepsToLaws.{answers, asks, bind, nothing, says_this}
+pub use Rattle.iot_machine.proofs.StepsLaws.{answers, asks, bind, nothing, says_this}
 pub use Rattle.iot_server_node.specs.Keepers.{Handles, KeepsList, Refuses, lists}
 pub use Rattle.iot_server_node.specs.Messages.{SpellsCut, committed_since, printed_under, said_of}
 pub use Rattle.iot_server_node.specs.Records.{EncodesList, HasList, IsImage, label_of, records_from, stamps_from, state_of}

@@ -208,8 +208,8 @@ module _ {D : Type 0} (medium : Medium D) (names : List (List ℕ)) where
       → StepsTo (Stands n) (Stands (answered_since (is_up old) n)) (Restarts server_name (kept_text names)) old new x y tt
   restarts old new n x y on down step =
       rw down
-      (bind old old new x x y false tt (asks old x false (λ node here. sym (up_is old node n here ∙ down)))
-      (bind old new new x y y on tt step (nothing new y)))
+      (bind {a = false} (asks (λ node here. sym (up_is old node n here ∙ down)))
+      (bind {a = on} step (nothing)))
 
   lasts_in : (post : Post (ServerKeeper D) (Disks D)) (node : Node (List Commit)) → Posted post node
       → Lasts (lists medium) (on_both medium) post node

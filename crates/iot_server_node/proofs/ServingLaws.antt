@@ -352,7 +352,7 @@ module _ {message : Message} {it : Submission} (hands : IsHanded message it) whe
           → number_in (servers.state_of was).labels label.client label.tid ≡ found
           → Steps n k (serving.judged it found) new x y verdict → Steps n k (Judges it) new x y verdict
       by_number found listed judged =
-          bind _ _ _ _ _ _ found _ (asks (live given_up was) _ found (λ node here. sym listed ∙ number_is here.post.stands)) judged
+          bind {a = found} (asks (λ node here. sym listed ∙ number_is here.post.stands)) judged
 
       -- one that holds is certified: it is to be appended, and says so
       judged_well : {n k : ℕ} {new : ServerNode D} {x y : List ℕ} {verdict : Option serving.Verdict} {number : ℕ}
@@ -363,8 +363,8 @@ module _ {message : Message} {it : Submission} (hands : IsHanded message it) whe
           → Steps n k (Judges it) new x y verdict
       judged_well {number = number} none hold numbered appends =
           let commits =
-          bind _ _ _ _ _ _ (printed_under (number + 1) message.handed) _
-          (asks (live given_up was) _ _ (λ node here. says_it here.post.stands hold numbered)) appends in
+          bind {a = (printed_under (number + 1) message.handed)}
+          (asks (λ node here. says_it here.post.stands hold numbered)) appends in
           by_number None none (record {
             step = λ node here.
                 let done = commits.step node here in (
@@ -439,7 +439,7 @@ module _ {message : Message} {it : Submission} (hands : IsHanded message it) whe
           ∙ ap (λ (n : ℕ). said_of (committed_since number n) message.handed) more ∙ commit_is_said number message.handed)
           (λ n x.
           judged_well given_up was none holds refl
-          (bind _ (live given_up now) _ _ x _ true _
+          (bind {a = true}
           (record {
             step = λ node here. (
               [],
@@ -449,8 +449,8 @@ module _ {message : Message} {it : Submission} (hands : IsHanded message it) whe
               stands_longer medium names done here (are here.post.stands holds) (grown_by made) made is_known,
             );
           })
-          (bind _ _ _ _ _ _ tt _ (says_this _ (live given_up now) _ _ refl)
-          (asks (live given_up now) _ _ (λ node here.
+          (bind {a = tt} (says_this refl)
+          (asks (λ node here.
           ap (λ (k : ℕ). Some (Settled k))
           (sym more ∙ ap (λ (s : State). length s.labels) (sym made) ∙ counted_there here.post.stands))))))
       by_found None none (Holds, holds, inr (misfit, replied, made)) = absurd (misfit (takes_here.fit (takes_here.exactly.0 holds)))
@@ -506,7 +506,7 @@ module _ {message : Message} {it : Submission} (hands : IsHanded message it) whe
         λ n.
         rw refused.old_is
         (judged_well refused.given_up refused.was (not_listed _ label.client label.tid after.is_new) after.holds counts
-        (bind _ _ _ _ _ _ false None
+        (bind {a = false}
         (with_known medium names
         (record {
           step = λ node here.
@@ -528,4 +528,4 @@ module _ {message : Message} {it : Submission} (hands : IsHanded message it) whe
         known_stopped names it.commit node after text message.request.items is_known
         (leads_on medium refused.was refused.now why.0 starts here.stands))
         (λ had. off n))
-        (answers _ _ _ None (λ node here. here))))
+        (answers (λ node here. here))))

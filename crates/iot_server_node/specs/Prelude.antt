@@ -23,7 +23,7 @@ pub use Rattle.iot_node.specs.Posts.{CameIf, HoldsBy, HoldsEither, IsStanding, L
 pub use Rattle.iot_node.specs.Posts.{beside_of, live_of, words_of}
 pub use Rattle.iot_node.specs.declared.comeback.Comeback.{Comeback}
 pub use Rattle.iot_node.specs.declared.comeback.Comeback.TheVariants.{Promote, Restart}
-pub use Rattle.iot_node.specs.Steps.{StepsTo}
+pub use Rattle.iot_machine.specs.Refining.{StepsTo}
 pub use Rattle.iot_node.specs.declared.post.Doubt.{Doubt}
 pub use Rattle.iot_node.specs.declared.post.Post.{Post}
 pub use Rattle.iot_node.specs.declared.post.Post.TheVariants.{Between, Down, Up}

@@ -7,7 +7,7 @@ pub use Rattle.std.proofs.lemmas.List.{append-nil, drop_more, length-append, len
 pub use Rattle.iot_laptop.proofs.NodesLaws.{awake_stands, fallen_stands, lent_at, node_stands, same_name, some_awake}
 pub use Rattle.iot_machine.proofs.FollowsLaws.{all_as, all_push, all_set}
 pub use Rattle.iot_machine.proofs.SoundLaws.{sound_event, sound_opening}
-pub use Rattle.iot_node.proofs.StepsLaws.{asks, bind, says, says_this}
+pub use Rattle.iot_machine.proofs.StepsLaws.{asks, bind, says, says_this}
 pub use Rattle.iot_server_node.proofs.BeginningLaws.{commits_kept, commits_same, image_goes_on, own_goes_on, stands_go_on}
 pub use Rattle.iot_server_node.proofs.ServersLaws.{has_disk, lasts, more_names, up_is}
 pub use Rattle.iot_store.specs.Store.{state_of}

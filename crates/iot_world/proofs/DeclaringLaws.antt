@@ -29,7 +29,7 @@ use Rattle.iot_world.specs.Prelude.{Opening, KeepsDisk, counts_on, IsEmpty, Step
 use Rattle.iot_world.specs.Prelude.{ServerNode, Laptop, DeclaredScript, World, AllByRecursion, Code, is_declared, Says, goes_on, Declared}
 use Rattle.iot_world.specs.Prelude.{disk_in, script_named, Global, IsBeside, KeepsBeside, last_of, on_both, paired, placed, IsNamed}
 use Rattle.iot_world.specs.World.{AllFollow, LeavesDisks, with_server}
-use Rattle.iot_node.proofs.StepsLaws.{does}
+use Rattle.iot_machine.proofs.StepsLaws.{does}
 use Rattle.std.proofs.Math.Seq.{take-append_seam}
 use Rattle.std.proofs.lemmas.List.Folds.{find-append}
 use Rattle.std.proofs.lemmas.Slice.Eq.{bytes_eq-Decides}
@@ -265,7 +265,8 @@ module _ {D : Type 0} (medium : Medium D) (name : List ℕ) (old : World D) (cli
           rw push (each_push (ClientStands medium m.scripts) old.clients.items m.clients next k started here.clients_) in
           let follow : AllFollow clients.items m.server.durable =
           rw push (all_push (λ l. Follows (stamps_in l) m.server.durable) old.clients.items next
-          (follows_kept (stamps_in was) (stamps_in next) m.server.durable trails (rw empty (follows_nothing m.server.durable))) here.follow) in
+          (follows_kept (stamps_in was) (stamps_in next) m.server.durable trails
+          (rw empty (follows_nothing m.server.durable))) here.follow) in
           let placed = subst ArePlaced (sym push)
           (each_place_push (λ n (l : Laptop D). l.place ≡ n) old.clients.items next here.placed (stays ∙ knows)) in
           let empty = (subst (AllByRecursion (IsEmpty medium)) spare here.spare).1 in
@@ -325,7 +326,7 @@ module _ {D : Type 0} (medium : Medium D) where
   pub declares_script : (name : List ℕ) (code : Code) (old : World D) (scripts : Vec DeclaredScript Global) (x : List ℕ)
       → is_declared name (script_names old) ≡ false → scripts.items ≡ old.scripts.items ++ record { name = name; script = code } ∷ []
       → MakesStep medium (event_part (events.Script name code)) old (record old { scripts = scripts }) x x tt
-  declares_script name code old scripts x none adds = does old (record old { scripts = scripts }) x x (λ m here.
+  declares_script name code old scripts x none adds = does (λ m here.
       let both = clients_more medium m.scripts one old.clients.items m.clients here.clients_ in
       let all : m.scripts ++ one ∷ [] ≡ exchange.scripts_of scripts.items =
       ap (λ (ss : List Declared). ss ++ one ∷ []) here.scripts

@@ -1,6 +1,7 @@
 -- The disks of a world, from one call to the next.
 use Rattle.std.proofs.lemmas.Option.{same_Some}
-use Rattle.iot_world.proofs.Common.{◌≡◌, ℕ, zero, suc, ◌+◌, ◌<◌, Bool, true, List, [], ◌∷◌, ◌++◌, length, Option, Some, None, slice_set, inl, refl}
+use Rattle.iot_world.proofs.Common.{◌≡◌, ℕ, zero, suc, ◌+◌, ◌<◌, Bool, true, List, [], ◌∷◌, ◌++◌, length, Option, Some, None, slice_set}
+use Rattle.iot_world.proofs.Common.{inl, refl}
 use Rattle.iot_world.proofs.Common.{sym, ap, ◌∙◌, arith, append_assoc, slice_get, slice_index_or, subst, length-append, length-set}
 use Rattle.iot_world.proofs.Common.{with_first, with_clients, LaptopHasDisk, AreLast, UnlessArmed, KeepsNode, Each, KeepsDisks}
 use Rattle.iot_world.proofs.Common.{SameArms, IsUnarmed, StandsForSome, all_set, false, ◌≤◌, MakesStep, disks_of, OnOk, commits_same}
@@ -147,7 +148,8 @@ module _ {D : Type 0} (medium : Medium D) where
     kept_still : KeepsDisk medium (disk_in was) (disk_in now) → KeepsDisks old other × SameArms medium 0 false old other
     kept_still kept = (
       has_still (λ had. ap is_some kept.new_has),
-      arms_with old other keeps (rw put (clients_put old.clients.items c was now old.spare.items (looked_up _ _ _ _ refl inside value) kept))
+      arms_with old other keeps
+          (rw put (clients_put old.clients.items c was now old.spare.items (looked_up _ _ _ _ refl inside value) kept))
           (omega arith),
     )
 

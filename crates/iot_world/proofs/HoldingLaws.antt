@@ -11,7 +11,8 @@ use Rattle.iot_world.specs.Holding.{HoldTogether, HoldsServer}
 use Rattle.iot_world.specs.Prelude.{Disks, Image, LacksCommit, on_both, paired, placed}
 use Rattle.iot_server_node.specs.Disks.{MayLeave}
 use Rattle.iot_world.proofs.BeginsLaws.{begins_there, leave_both, leaves_last, lone, pair_of}
-use Rattle.iot_world.proofs.PlacesLaws.{ServerPlaced, ends_as, has_places, places_list, promoted_at, promoted_is, server_list, server_placed}
+use Rattle.iot_world.proofs.PlacesLaws.{ServerPlaced, ends_as, has_places, places_list, promoted_at, promoted_is, server_list}
+use Rattle.iot_world.proofs.PlacesLaws.{server_placed}
 use Rattle.std.proofs.lemmas.Bool.{or_parts}
 use Rattle.iot_disk.specs.Disk.{Storing}
 use Rattle.iot_world.specs.Prelude.{IsPlaced}
@@ -264,7 +265,15 @@ module _ {D : Type 0} (medium : Medium D) where
       aligned =
           let many = each_length CountsClient (theirs world m here) m.clients (held world m here) in
           let long = length-append same.spare.front world.spare.items in
-          omega (arith, same_length medium world m here, here.eight, opens.stands.stands.eight, opens.no_clients, ap length same.spare.split);
+          omega (
+            arith,
+            same_length medium world m here,
+            here.eight,
+            opens.stands.stands.eight,
+            opens.no_clients,
+            ap length
+                same.spare.split,
+          );
     }
 
     -- and has counted that

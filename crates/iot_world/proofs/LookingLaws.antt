@@ -67,8 +67,8 @@ module _ {D : Type 0} (medium : Medium D) where
         → labels ≡ (state_of it).labels → ((m : Machine) → StandsFor medium world m → IsServerOf it m.server m.requests)
         → y ≡ x ++ log_text names labels → MakesStep medium Logs world world x y tt
     logs_up names labels it same are lent wrote =
-        bind world world world x x y true tt (asks world x true (λ m here. sym (lent m here).alive))
-        (says world x y (λ m here. rw (wrote, same, are, names_are world m here, (lent m here).labels)))
+        bind {a = true} (asks (λ m here. sym (lent m here).alive))
+        (says (λ m here. rw (wrote, same, are, names_are world m here, (lent m here).labels)))
 
 -- ---- what a client holds, as JSON
 
@@ -135,9 +135,9 @@ module _ {D : Type 0} (medium : Medium D) (laptop : Laptop D) (x y : List ℕ) w
       → (scripts : List Declared) → Refines (ClientStands medium scripts) (node_part Show) laptop laptop x y tt
   shows t up is wrote scripts = stays_shown scripts (λ m here.
       let there : LaptopStands medium scripts laptop m = awake_stands medium scripts laptop m up here in
-      bind laptop laptop laptop x x y true tt
-      (asks laptop x true (λ n same. sym (ap (λ (n : Node ClientState). n.alive) same ∙ there.alive)))
-      (says laptop x y
+      bind {a = true}
+      (asks (λ n same. sym (ap (λ (n : Node ClientState). n.alive) same ∙ there.alive)))
+      (says
       (λ n same. wrote ∙ ap (λ (t : Nodes). x ++ tree_text t)
       (is scripts m there ∙ ap (λ (n : Node ClientState). view n.durable) (sym same)))))
 
@@ -146,9 +146,9 @@ module _ {D : Type 0} (medium : Medium D) (laptop : Laptop D) (x y : List ℕ) w
       → (scripts : List Declared) → Refines (ClientStands medium scripts) (node_part Show) laptop laptop x y tt
   shows_down down wrote scripts = stays_shown scripts (λ m here.
       let there = fallen_stands medium scripts laptop m down here in
-      bind laptop laptop laptop x x y false tt
-      (asks laptop x false (λ n same. sym (ap (λ (n : Node ClientState). n.alive) same ∙ there.alive)))
-      (says_this (line (codes "down")) laptop x y wrote))
+      bind {a = false}
+      (asks (λ n same. sym (ap (λ (n : Node ClientState). n.alive) same ∙ there.alive)))
+      (says_this wrote))
 
 -- ---- the clients that a world lends
 

@@ -18,7 +18,7 @@ use Rattle.iot_machine.specs.Calls.{Asks, Says, either}
 use Rattle.iot_machine.specs.Events as machine
 use Rattle.iot_machine.specs.Nodes as nodes_of
 use Rattle.iot_machine.specs.Sound.{IsSure}
-use Rattle.iot_node.proofs.StepsLaws.{does}
+use Rattle.iot_machine.proofs.StepsLaws.{does}
 use Rattle.iot_node.specs.Posts.{PostStands}
 use Rattle.iot_node.specs.declared.post.Post.TheVariants.{Up, Down, Between}
 use Rattle.iot_node.specs.declared.post.Post.{Post}
@@ -298,8 +298,14 @@ module _ {D : Type 0} (medium : Medium D) where
             let step : RestartsServer m s.0 tt n =
             gets_then (gets_then (then_silent (server.set s.1 m) tt (record { inner = s.1; step = s.3; is = refl }) (refl, refl))) in
             let served = subst (λ (b : Bool). ServerStands medium (names_in m) server_ s.1 (answered_since b m.requests))
-            (sym (up_is medium (names_in m) old.server m.server m.requests here.server)) s.4 in
-            (s.0, n, s.2, step, anew m s.1 here m.server.alive (event_grows medium old (events.Server nodes.Restart) m n s.0 here step) served);
+            (sym (up_is medium (names_in m) old.server m.server m.requests here.server)) s.4 in (
+              s.0,
+              n,
+              s.2,
+              step,
+              anew m s.1 here m.server.alive
+                  (event_grows medium old (events.Server nodes.Restart) m n s.0 here step) served,
+            );
       }
         where
           anew : (m : Machine) (node : Node (List Commit)) → StandsFor medium old m → (alive : Bool)
@@ -313,7 +319,7 @@ module _ {D : Type 0} (medium : Medium D) where
     pub arms_backup : (calls : ℕ) (pick : Pick) (x y : List ℕ) → y ≡ x ++ stop_line backup_name calls pick
         → ((promoted : Bool) → ArmsServersBackup medium calls pick promoted old.server server_)
         → MakesStep medium (ArmsBackup calls pick) old later x y tt
-    arms_backup calls pick x y wrote arms = does old later x y (λ m here. (wrote, by m here m.promoted here.beside))
+    arms_backup calls pick x y wrote arms = does (λ m here. (wrote, by m here m.promoted here.beside))
       where
         by : (m : Machine) → StandsFor medium old m → (promoted : Bool) → IsBeside medium old.server promoted m.beside
             → StandsFor medium later (arm_backup calls pick promoted (record m { promoted = promoted }))
@@ -350,18 +356,18 @@ module _ {D : Type 0} (medium : Medium D) where
     -- one that is alive says that, and so does one that has done it before
     promotes_up : (x y : List ℕ) → is_up old.server ≡ true → y ≡ x ++ line (codes "up") → MakesStep medium machine.Promotes old old x y tt
     promotes_up x y up wrote =
-        bind old old old x x y true tt
-        (asks old x true (λ m here. sym (up_is medium (names_in m) old.server m.server m.requests here.server ∙ up)))
-        (says_this (line (codes "up")) old x y wrote)
+        bind {a = true}
+        (asks (λ m here. sym (up_is medium (names_in m) old.server m.server m.requests here.server ∙ up)))
+        (says_this wrote)
 
     promotes_again : (x y : List ℕ) → is_up old.server ≡ false → is_promoted old.server ≡ true → y ≡ x ++ line (codes "nothing")
         → MakesStep medium machine.Promotes old old x y tt
     promotes_again x y down again wrote =
-        bind old old old x x y false tt
-        (asks old x false (λ m here. sym (up_is medium (names_in m) old.server m.server m.requests here.server ∙ down)))
-        (bind old old old x x y true tt
-        (asks old x true (λ m here. sym (sym (promoted_is medium old.server m.promoted m.beside here.beside) ∙ again)))
-        (says_this (line (codes "nothing")) old x y wrote))
+        bind {a = false}
+        (asks (λ m here. sym (up_is medium (names_in m) old.server m.server m.requests here.server ∙ down)))
+        (bind {a = true}
+        (asks (λ m here. sym (sym (promoted_is medium old.server m.promoted m.beside here.beside) ∙ again)))
+        (says_this wrote))
 
     pub promotes : {T E : Type 0} (r : Result T E) (x y : List ℕ)
         → (is_up old.server ≡ true → OnOk r (y ≡ x ++ line (codes "up")))
@@ -423,4 +429,4 @@ module _ {D : Type 0} {medium : Medium D} {old new : World D} {x y : List ℕ} w
   -- an event of a client is one among the scripts of the machine
   pub client_steps : (c : ℕ) (what : ClientEvent ℕ Profile) → MakesStep medium (client_part (scripts_of old) c what) old new x y tt
       → MakesStep medium (event_part (events.At c what)) old new x y tt
-  client_steps c what one = bind old old new x x y (scripts_of old) tt (asks old x (scripts_of old) (λ m here. sym here.scripts)) one
+  client_steps c what one = bind {a = (scripts_of old)} (asks (λ m here. sym here.scripts)) one

@@ -45,7 +45,7 @@ pub use Rattle.iot_machine.specs.Transcript.{Opening}
 pub use Rattle.iot_node.specs.Disks.{CountsOn, IsEmpty, KeepsDisk, counts_on}
 pub use Rattle.iot_node.specs.Keeping.{Keeping}
 pub use Rattle.iot_node.specs.Posts.{CameIf, HoldsEither, Lasts, PostStands, is_fallen, words_of}
-pub use Rattle.iot_node.specs.Steps.{StepsTo}
+pub use Rattle.iot_machine.specs.Refining.{StepsTo}
 pub use Rattle.iot_node.specs.declared.post.Post.{Post}
 pub use Rattle.iot_node.specs.declared.post.Post.TheVariants.{Between, Down, Up}
 pub use Rattle.iot_queue.specs.declared.items.Item.{Item}

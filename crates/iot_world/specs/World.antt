@@ -153,7 +153,8 @@ pub record SameArms {D : Type 0} (medium : Medium D) (joins : ℕ) (turns : Bool
   pub stays : turns ≡ false → is_promoted new.server ≡ is_promoted old.server
 
 -- They are those of before, and none was armed unless that was done.
-pub record LeavesDisks {D T E : Type 0} (medium : Medium D) (arms : Bool) (joins : ℕ) (turns : Bool) (result : Result T E) (old new : World D)
+pub record LeavesDisks {D T E : Type 0} (medium : Medium D) (arms : Bool) (joins : ℕ) (turns : Bool) (result : Result T E)
+    (old new : World D)
     : Type 0 where
   pub kept : KeepsDisks old new
   pub same : UnlessArmed arms result (SameArms medium joins turns old new)

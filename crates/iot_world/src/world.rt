@@ -35,7 +35,8 @@ pub struct World<D: Disk> {
 
 impl<D: Disk> World<D> {
     ghost use Rattle.iot_world.specs.World.{StandsFor, IsWorldOfSome, EventSteps, DeclaredOn, Opens, HasDisks, KeepsDisks, SameArms};
-    ghost use Rattle.iot_world.specs.World.{AreUnarmed, LeavesDisks, MakesStep, GivesBack, joined_by, disks_of, ClientIs, client_count, script_names};
+    ghost use Rattle.iot_world.specs.World.{AreUnarmed, LeavesDisks, MakesStep, GivesBack, joined_by, disks_of, ClientIs, client_count};
+    ghost use Rattle.iot_world.specs.World.{script_names};
     ghost use Rattle.iot_world.specs.World.{LendsServer, LendsClient, IsReady};
     ghost use Rattle.iot_world.specs.Deciding.{Decides};
 

@@ -14,7 +14,8 @@ returns-then-waits g c scripts on_conflict means =
     asks_then (full_here (sym c.is_full.ensures ∙ c.if-is_full.false))
     (asks_then (pends_here (sym c.waits.ensures ∙ c.if-waits.true))
     (by_client (starts (script_of c.args.script.now) on_conflict false) c.requires.keeps c.start.ensures.place
-    (unless_done (KeepsTrails c.args.laptop.now c.start.new.laptop) c.start.result c.start.ensures.trails) (c.start.ensures.does scripts on_conflict means.script_is means.resolver means.option_is) c.start.ensures.disk))
+    (unless_done (KeepsTrails c.args.laptop.now c.start.new.laptop) c.start.result c.start.ensures.trails)
+    (c.start.ensures.does scripts on_conflict means.script_is means.resolver means.option_is) c.start.ensures.disk))
 
 pub returns-in_err-first : goal.returns-in_err-first
 returns-in_err-first g c scripts on_conflict means =

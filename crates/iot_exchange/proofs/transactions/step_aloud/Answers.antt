@@ -41,4 +41,5 @@ returns-in-None g c scripts =
     (lent_run c.run.ensures.running c.in-None.is) refl))
 
 pub returns-in_err-say_step-in-Some-run : goal.returns-in_err-say_step-in-Some-run
-returns-in_err-say_step-in-Some-run g c scripts = no_memory c.from_residual-in_err-say_step-in-Some-run.ensures.1 (c.steps.ensures scripts).disks
+returns-in_err-say_step-in-Some-run g c scripts = no_memory c.from_residual-in_err-say_step-in-Some-run.ensures.1
+    (c.steps.ensures scripts).disks

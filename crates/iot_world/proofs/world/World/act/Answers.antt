@@ -1,7 +1,7 @@
 use Rattle.iot_world.proofs.Common.{append-nil, commits_same, refl, rules, sym}
 use Rattle.iot_event.specs.declared.event.Event.TheVariants as events
 use Rattle.iot_event.specs.declared.event.NodeEvent.TheVariants as nodes
-use Rattle.iot_node.proofs.StepsLaws.{says}
+use Rattle.iot_machine.proofs.StepsLaws.{says}
 use Rattle.iot_world.proofs.DecidingLaws.{decides_promoted}
 use Rattle.iot_world.proofs.DisksLaws.{armed_leaves, nothing_leaves, server_keeps, server_leaves}
 use Rattle.iot_world.proofs.DeclaringLaws.{declares_script}
@@ -24,7 +24,7 @@ pub returns-in_err-push-in-Script-clause-disks : goal.returns-in_err-push-in-Scr
 returns-in_err-push-in-Script-clause-disks g c = nothing_leaves g.D.Disk.medium _ _ _ (some_world c.requires.stands) refl refl refl
 
 pub returns-in-Profile-clause-step : goal.returns-in-Profile-clause-step
-returns-in-Profile-clause-step g c = rw c.in-Profile.is (says _ _ _ (λ m here. sym (append-nil _)))
+returns-in-Profile-clause-step g c = rw c.in-Profile.is (says (λ m here. sym (append-nil _)))
 
 pub returns-in-Profile-clause-disks : goal.returns-in-Profile-clause-disks
 returns-in-Profile-clause-disks g c = nothing_leaves g.D.Disk.medium _ _ _ (some_world c.requires.stands) refl refl refl

@@ -1,6 +1,6 @@
 -- Calls that are put together in another order do the same.
-use Rattle.std.proofs.Common.{◌≡◌, List, [], ◌++◌, refl, ap, ◌∙◌, append_assoc}
-use Rattle.iot_exchange.specs.Words.{ℕ, Call, Asks, Then}
+use Rattle.std.proofs.Common.{◌≡◌, ℕ, List, [], ◌++◌, refl, ap, ◌∙◌, append_assoc}
+use Rattle.iot_machine.specs.Calls.{Asks, Call, Then}
 
 module _ {S : Type 0} where
   -- what follows two calls follows the second of them
