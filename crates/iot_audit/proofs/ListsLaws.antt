@@ -28,7 +28,9 @@ use Rattle.iot_limits.proofs.AccessLaws.{asked_spelled, lines_spelled, updates_s
 use Rattle.iot_limits.proofs.SpelledLaws.{run_is_spelled}
 use Rattle.iot_limits.specs.Spelled.{AreSpelledFiles, IsSpelledTree, SpelledRun}
 use Rattle.iot_machine.specs.Machine.{Commit, entries_of, tree_after}
-use Rattle.iot_server_node.specs.Records.{HasList, label_of, records_from, state_of}
+use Rattle.iot_judging.specs.Lists.{state_of}
+use Rattle.iot_judging.specs.Records.{HasList, records_from}
+use Rattle.iot_machine.specs.Recorded.{label_of}
 use Rattle.iot_slots.proofs.WithinLaws.{AreWithin, IsWithin, decoded_within}
 use Rattle.iot_slots.specs.Decoding.{Decoded, Encodes, NotStarted, Foreign, Damaged, decoded}
 use Rattle.iot_slots.specs.declared.version.Version.{Version}

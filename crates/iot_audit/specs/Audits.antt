@@ -10,7 +10,8 @@ use Rattle.iot_exec.specs.Serial.{Entry, run_entry, serial, serial_tree}
 use Rattle.iot_exec.specs.declared.ran.Ran.{Ran}
 use Rattle.iot_lang.specs.Code.{Code}
 use Rattle.iot_machine.specs.Machine.{Commit}
-use Rattle.iot_server_node.specs.Records.{HasList, state_of}
+use Rattle.iot_judging.specs.Lists.{state_of}
+use Rattle.iot_judging.specs.Records.{HasList}
 use Rattle.iot_slots.specs.Decoding.{Foreign, decoded}
 use Rattle.iot_store.specs.Images.{HasRecorded}
 use Rattle.iot_store.specs.Rules.{header, rules}

@@ -7,3 +7,5 @@ pub mod RunTreesLaws
 pub mod ToldLaws
 pub mod ListsLaws
 pub mod FollowingLaws
+pub mod RecordsLaws
+pub mod ImagesLaws

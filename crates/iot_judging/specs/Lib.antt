@@ -3,3 +3,4 @@ pub mod Told
 pub mod Verdicts
 pub mod Lists
 pub mod Errands
+pub mod Records

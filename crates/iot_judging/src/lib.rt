@@ -1,5 +1,5 @@
-//! What certification says of the runs of the plain machine's clients, which trees have spellings, and what lists of commits make:
-//! definitions and laws.
+//! What certification says of the runs of the plain machine's clients, which trees have spellings, what lists of commits make, and which
+//! bytes encode them: definitions and laws.
 #![tactic(auto)]
 
 mod laws;

@@ -8,4 +8,5 @@ pub use Rattle.iot_machine.proofs.StepsLaws.{answers, asks, bind, nothing, says_
 pub use Rattle.iot_server_node.specs.Keepers.{Handles, KeepsList, Refuses, lists}
 pub use Rattle.iot_server_node.specs.Messages.{SpellsCut, committed_since, printed_under, said_of}
 pub use Rattle.iot_server_node.specs.Records.{EncodesList, HasList, IsImage, label_of, records_from, stamps_from, state_of}
-pub use Rattle.iot_server_node.specs.Servers.{AreOf, ServerStands, disk_of}
+pub use Rattle.iot_server_node.specs.Servers.{ServerStands, disk_of}
+pub use Rattle.iot_judging.specs.Records.{AreOf}

@@ -32,97 +32,9 @@ use Rattle.iot_store.proofs.StandingLaws.{store_counted, store_decoded, store_st
 use Rattle.iot_tree.specs.declared.access.Access.{Access}
 use Rattle.iot_judging.proofs.ListsLaws.{stamps_split}
 use Rattle.iot_store.proofs.PartsLaws.{changes_from, changes_map, if_both, if_mapped}
-use Rattle.iot_server_node.proofs.PairsLaws.{both_stand, counted_image, opened_has, other_left}
-use Rattle.iot_server_node.proofs.RecordsLaws.{list_push, tree_after_more}
-
--- ---- one commit more
-
--- the record and the state after a commit with this label, this access and these lines
-module _ (commits : List Commit) {commit : Commit} {label : Label} {access : Access} {lines : List (List ℕ)}
-    (are : AreOf commit (tree_after commits) label access lines) where
-  pub record_is : (encoded : Encoded) (body : List ℕ) → IsRecord body label access lines → EncodesList encoded commits
-      → EncodesList (appended encoded body) (add_commit commit commits)
-  record_is encoded body spells list =
-      list_push commits commit
-      (sym spells.spelled ∙ sym (λ i. record_spelling (are.has_label i) (are.has_access i) (are.has_lines i))) list
-
-  pub state_is : state_of (add_commit commit commits) ≡ after_commit (state_of commits) label access
-  state_is =
-      let number : 0 + length commits ≡ length (map label_of commits) = omega (arith, length-map commits label_of) in
-      let stamps =
-      stamps_split commits (commit ∷ []) (root_alone Dir) opening_stamps 0
-      ∙ (λ i. stamped_acts (state_of commits).stamps (run_entry commit.entry (tree_after commits)).acts (next_stamp (number i)))
-      ∙ sym (all_of_acts (next_stamp (length (map label_of commits))) (state_of commits).stamps
-      (run_entry commit.entry (tree_after commits)).acts)
-      ∙ ap (λ (a : Access). stamped_all (state_of commits).stamps a.updates (next_stamp (length (map label_of commits)))) are.has_access
-      in
-      λ i. record {
-        tree = (tree_after_more commits (commit ∷ []) ∙ are.made) i;
-        labels = (map-append label_of commits (commit ∷ []) ∙ ap (λ (l : Label). map label_of commits ++ l ∷ []) are.has_label) i;
-        stamps = stamps i;
-      }
-
--- what was encoded has the list, and so has a checkpoint of its state alone
-pub renewed_list : (was encoded : Encoded) (commits : List Commit) → IsRenewed rules was (state_of commits) encoded
-    → EncodesList was commits → EncodesList encoded commits
-renewed_list was encoded commits (inl same) list = rw same list
-renewed_list was encoded commits (inr alone) list =
-    rw alone.is
-    (record { front = commits; later = []; split = sym (append-nil commits); spells = alone.spells; records = refl })
-
--- ---- images
-
--- bytes that stand for the state of a list and encode it
-pub image_is : (bytes : List ℕ) (n : ℕ) (commits : List Commit) {encoded : Encoded} → decoded header bytes ≡ Encodes encoded
-    → EncodesList encoded commits → StandWith rules bytes n (state_of commits) → n ≡ length commits → IsImage bytes n commits
-image_is bytes n commits is list stands counted = record {
-  stands = stands.stands;
-  list = subst (λ (d : Decoded). HasList d commits) (sym is) list;
-  many = stands.counted;
-  counted = counted;
-}
-
--- a disk on which nothing was started has no commits
-pub empty_image : (bytes : List ℕ) → decoded header bytes ≡ NotStarted → IsImage bytes 0 []
-empty_image bytes is = record {
-  stands = record { decoding = NotStarted; is = is; makes = refl };
-  list = subst (λ (d : Decoded). HasList d []) (sym is) refl;
-  many = ap (λ (d : Decoded). (encoded_in d).count) is;
-  counted = refl;
-}
-
--- ---- a start
-
--- whether it is started
-is_started : (d : Decoded) → (d ≡ NotStarted) ⊎ (d ≢ NotStarted)
-is_started NotStarted = inl refl
-is_started d = inr (λ none. absurd cc)
-
--- What a start leaves of a disk with these bytes, each image of which was one of those: it stands for the state for which they stood. A
--- disk that was started is only read, and one that was not is not, or was just started.
-pub record Starts (bytes : List ℕ) (before now : List ℕ → Type 0) : Type 0 where
-  pub stands : (state : State) → StandFor bytes state → EachStands rules now (records_in bytes) state
-  pub same : decoded header bytes ≢ NotStarted → SameImages before now
-  pub opens : decoded header bytes ≡ NotStarted → EachOpens rules now
-
--- images of a disk that is started, or has the same images as before, hold the same
-pub hold_too : {bytes : List ℕ} {before now : List ℕ → Type 0} → Only bytes before → Starts bytes before now → (n : ℕ)
-    (commits : List Commit) → IsImage bytes n commits → (other : List ℕ) → now other → IsImage other n commits
-hold_too {bytes} only it n commits is other there = elim (is_started (decoded header bytes)) [
-  | inl none ↦
-      let stands = (it.stands (state_of commits) is.stands).each other there in
-      let empty : commits ≡ [] = subst (λ (d : Decoded). HasList d commits) none is.list in
-      record {
-        stands = stands.stands;
-        list = elim ((it.opens none).each other there) [
-          | inl still ↦ rw still empty
-          | inr fresh ↦ rw fresh.2 (opened_has fresh.0 NotStarted (state_in Two fresh.0 [] 0) commits fresh.1 empty refl)
-        ];
-        many = stands.counted ∙ is.many;
-        counted = is.counted;
-      }
-  | inr some ↦ subst (λ (l : List ℕ). IsImage l n commits) (sym (only.is other ((it.same some).was other there))) is
-]
+use Rattle.iot_server_node.proofs.PairsLaws.{both_stand, other_left}
+use Rattle.iot_judging.proofs.ImagesLaws.{counted_image, opened_has, renewed_list, image_is, Cut, never_before, one_cut}
+use Rattle.iot_judging.proofs.RecordsLaws.{list_push, tree_after_more}
 
 -- bytes from which a server can be started stand for the state of some list
 pub stands_for : {D : Type 0} (medium : Medium D) (image : Image) → CanStart (lists medium) image
@@ -163,68 +75,10 @@ keeps_of {D} medium it given_up n commits synced many state are = record {
 
 -- ---- a commit that was cut off
 
-module _ (commits : List Commit) {commit : Commit} {label : Label} {access : Access} {lines : List (List ℕ)}
-    (are : AreOf commit (tree_after commits) label access lines) (n : ℕ) (follows : CanFollow (state_of commits) label access)
-    (counted : n ≡ length commits) (one_more : next n ≡ length (add_commit commit commits)) where
-  -- an image with its record, which one of the other disk without it may follow
-  abbrev With : List ℕ → Type 0
-  With image =
-      IsImage image (next n) (add_commit commit commits)
-      × ((j : List ℕ) → IsImage j n commits → MayFollow image j → LacksCommit image j n commits (add_commit commit commits))
-
-  abbrev Cut : List ℕ → Type 0
-  Cut image = IsImage image n commits ⊎ With image
-
-  -- an image of a disk that had the list
-  one_cut : (was : Encoded) → was.count ≡ n → MakesOf rules was (state_of commits) → EncodesList was commits → {images : List ℕ → Type 0}
-      → EachGoes rules images was (state_of commits) (record { label = label; access = access; lines = lines }) → (image : List ℕ)
-      → images image → Cut image
-  one_cut was many makes list goes image there =
-      let it = cut_off was n (state_of commits) many makes (record { label = label; access = access; lines = lines }) follows goes
-      image there in
-      let has = renewed_list was it.encoded commits it.renews list in
-      elim it.either [
-        | inl without ↦ inl (image_is image n commits without.0 has without.1 counted)
-        | inr one ↦ inr (
-          image_is image (next n) (add_commit commit commits) one.2 (record_is commits are it.encoded one.0 one.1.spells has)
-              (subst (λ (s : State). StandWith rules image (next n) s) (sym (state_is commits are)) one.3) one_more,
-          λ j other step. record {
-            commit = commit;
-            is = refl;
-            image = other;
-            lacks = record {
-              encoded = it.encoded;
-              body = one.0;
-              before = state_of commits;
-              change = record { label = label; access = access; lines = lines };
-              is = one.2;
-              makes = renewed_makes was n (state_of commits) many makes it.encoded it.renews;
-              next = one.1;
-              follows = follows;
-              after = state_is commits are;
-              other = record {
-                stands = other.stands;
-                counted = other.many ∙ sym (renewed_count was it.encoded (state_of commits) it.renews ∙ many);
-              };
-            };
-            before = refl;
-            follows = step;
-          },
-        )
-      ]
-
-  -- a backup does not have it before the disk has it
-  never_before : (i j : List ℕ) → IsImage i n commits → IsImage j (next n) (add_commit commit commits) → MayFollow i j → ⊥
-  never_before i j one other follows =
-      let it = follows.step in
-      let first : it.first ≡ n = same_Some _ _ (sym it.first_is ∙ counted_image i n commits one) in
-      let second : it.second ≡ next n =
-      same_Some _ _ (sym it.second_is ∙ counted_image j (next n) (add_commit commit commits) other) in
-      let step = it.step in grind (arith, nat_tests)
-
+module _ (n : ℕ) (commits : List Commit) (commit : Commit) where
   -- an image of both disks
   both_cut : {D : Type 0} (medium : Medium D) (first : D) (second : Option (Slots D)) (image : Image)
-      → Cut image.disk → If (λ s. (j : List ℕ) → images_of medium s j → Cut j) second
+      → Cut n commits commit image.disk → If (λ s. (j : List ℕ) → images_of medium s j → Cut n commits commit j) second
       → If (λ s. EachStarts (medium.may_leave first) (images_of medium s)) second → medium.may_leave first image.disk
       → MayLeaveOf medium (option_map disk_on second) image.backup
       → IsEither (lists medium) image n commits (add_commit commit commits)
@@ -233,7 +87,7 @@ module _ (commits : List Commit) {commit : Commit} {label : Label} {access : Acc
       disk = one;
       backup = other (λ j. IsImage j n commits) (λ j follows it. elim it [
         | inl has ↦ has
-        | inr more ↦ absurd (never_before image.disk j one more.0 follows)
+        | inr more ↦ absurd (never_before n commits commit image.disk j one more.0 follows)
       ]);
     })
     | inr one ↦ inr (record {
@@ -243,7 +97,7 @@ module _ (commits : List Commit) {commit : Commit} {label : Label} {access : Acc
     })
   ]
     where
-      other : (Q : List ℕ → Type 0) → ((j : List ℕ) → MayFollow image.disk j → Cut j → Q j) → If Q image.backup
+      other : (Q : List ℕ → Type 0) → ((j : List ℕ) → MayFollow image.disk j → Cut n commits commit j → Q j) → If Q image.backup
       other Q so =
           other_left medium Q (option_map disk_on second) image.backup
           (if_mapped (λ b. (j : List ℕ) → medium.may_leave b j → Q j) disk_on second
@@ -327,7 +181,7 @@ module _ {D : Type 0} {medium : Medium D} {it : Server D} {given_up : Option D} 
       (λ image. IsEither (lists medium) image n commits (add_commit commit commits))
   cut_images {commit} {label} {access} {lines} are follows now other goes also starts = record {
     each = λ image left.
-        both_cut commits are n can is.counted (one_counted commit) medium (servers.disk_of now) (servers.second_of now) image
+        both_cut n commits commit medium (servers.disk_of now) (servers.second_of now) image
         (one_cut commits are n can is.counted (one_counted commit) (servers.encoded_on medium it)
         (store_counted medium (servers.store_of it) is.synced ∙ is.many) (rw is.has_state at is.synced.makes) is.lists.first
         (rw is.has_state at goes) image.disk left.disk)
@@ -343,7 +197,7 @@ module _ {D : Type 0} {medium : Medium D} {it : Server D} {given_up : Option D} 
           → If (λ s. MakesOf rules (state_on medium s) (servers.state_of it)) old → If (λ s. EncodesList (state_on medium s) commits) old
           → Changes (λ was now. EachGoes rules (images_of medium now) (state_on medium was) (servers.state_of it)
           (record { label = label; access = access; lines = lines })) old new
-          → If (λ s. (j : List ℕ) → images_of medium s j → Cut commits are n can is.counted (one_counted commit) j) new
+          → If (λ s. (j : List ℕ) → images_of medium s j → Cut n commits commit j) new
       by (Some was) (Some now) count makes list goes =
           one_cut commits are n can is.counted (one_counted commit) (state_on medium was) (count ∙ is.many) (rw is.has_state at makes) list
           (rw is.has_state at goes)

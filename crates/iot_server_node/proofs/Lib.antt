@@ -1,5 +1,4 @@
 mod Common
-mod RecordsLaws
 mod PairsLaws
 mod CountsLaws
 mod DisksLaws

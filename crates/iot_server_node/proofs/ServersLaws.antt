@@ -28,7 +28,7 @@ use Rattle.iot_server_node.specs.Servers.{HavingAnswered, IsUnopened, answered_s
 use Rattle.iot_server_node.proofs.CountsLaws.{kept_counts}
 use Rattle.iot_certify.specs.declared.verdict.Verdict.TheVariants.{Holds, Differs}
 use Rattle.iot_server_node.proofs.DisksLaws.{both_only}
-use Rattle.iot_server_node.proofs.KeepersLaws.{each_on, empty_image, keeps_images, one_counted, record_is, renewed_list, state_is}
+use Rattle.iot_server_node.proofs.KeepersLaws.{each_on, keeps_images, one_counted}
 use Rattle.iot_server_node.specs.Prelude.{CanFollow, EncodesAfter, IsAnswered, Reply, Submits}
 use Rattle.iot_store.proofs.NumbersLaws.{is_new_from}
 use Rattle.iot_store.specs.Numbers.{number_in}
@@ -38,6 +38,7 @@ use Rattle.iot_machine.proofs.FollowsLaws.{all_as, all_push, at_push}
 use Rattle.iot_machine.proofs.KeepsLaws.{asks_then, keeps_either, keeps_does, stays_says}
 use Rattle.iot_node.proofs.PostsLaws.{lasts_in as posts_lasts_in, on_is}
 use Rattle.iot_store.proofs.StandingLaws.{grown_count, store_counted}
+use Rattle.iot_judging.proofs.ImagesLaws.{empty_image, record_is, renewed_list, state_is}
 
 -- nothing was started on an empty disk
 nothing_started : decoded header [] ≡ NotStarted

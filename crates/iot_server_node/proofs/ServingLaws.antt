@@ -43,7 +43,7 @@ use Rattle.iot_wire.specs.declared.replies.Reply.TheVariants as replies
 use Rattle.iot_judging.proofs.ListsLaws.{IsStamped, list_stamped}
 use Rattle.iot_server_node.specs.Servers.{count_of, stamps_of, Handled, Refused, ServesBy, ServerIsSound, live, IsKnown, HavingAnswered}
 use Rattle.iot_server_node.specs.Servers.{IsSubmission, IsHanded, IsNamedIn, HasAnsweredIn, GivesUp}
-use Rattle.iot_server_node.proofs.KeepersLaws.{as_many, both_map, cut_images, state_is}
+use Rattle.iot_server_node.proofs.KeepersLaws.{as_many, both_map, cut_images}
 use Rattle.iot_server_node.specs.Keepers.{Both}
 use Rattle.iot_server_node.proofs.ServersLaws.{recorded, stands_still, stands_longer, with_known, known_stopped}
 use Rattle.iot_access.specs.Access.{IsAccess, TakesPlace, lines_of}
@@ -62,6 +62,7 @@ use Rattle.iot_store.specs.States as store
 use Rattle.iot_tree.specs.declared.acts.Read.{Read}
 use Rattle.iot_wire.specs.declared.requests.Request.TheVariants as requests
 use Rattle.iot_judging.specs.Verdicts.{SpellsVerdict}
+use Rattle.iot_judging.proofs.ImagesLaws.{state_is}
 
 -- nothing is said by a server that has as many commits as before
 nothing_said : (n : ℕ) (handed : Option Handed) → said_of (committed_since n n) handed ≡ []

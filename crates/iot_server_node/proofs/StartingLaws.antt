@@ -22,8 +22,9 @@ use Rattle.iot_server_node.specs.Prelude.{Commit, Disks, If, MayFollow, Medium, 
 use Rattle.iot_server_node.specs.Prelude.{StandWith, State, decoded, disk_on, header, images_of, next, records_in, rules}
 use Rattle.iot_server_node.specs.Records.{AreImages, AreTurning, LacksCommit}
 use Rattle.iot_server_node.proofs.CountsLaws.{alone_start, pair_start}
-use Rattle.iot_server_node.proofs.KeepersLaws.{Starts, hold_too, keeps_images, keeps_of}
-use Rattle.iot_server_node.proofs.PairsLaws.{both_stand, both_turn, brought_there, kept_there, lacks_still}
+use Rattle.iot_server_node.proofs.KeepersLaws.{keeps_images, keeps_of}
+use Rattle.iot_server_node.proofs.PairsLaws.{both_stand, both_turn}
+use Rattle.iot_judging.proofs.ImagesLaws.{Starts, hold_too, brought_there, kept_there, lacks_still}
 
 module _ {D : Type 0} (medium : Medium D) (disk : D) (given_up : Option D) (only : Only (medium.reads disk) (medium.may_leave disk)) where
   -- what is known of a start of the first disk

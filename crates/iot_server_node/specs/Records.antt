@@ -8,36 +8,8 @@ use Rattle.iot_slots.specs.declared.version.Version.TheVariants.{Two}
 use Rattle.iot_store.specs.Bodies.{IsBody}
 use Rattle.iot_server_node.specs.Disks.{Image}
 pub use Rattle.iot_judging.specs.Lists.{stamps_from, state_of}
+pub use Rattle.iot_judging.specs.Records.{EncodesList, HasList, IsImage, LacksCommit, records_from}
 pub use Rattle.iot_machine.specs.Recorded.{label_of}
-
--- the records of commits from a tree on: of each its label, the access of its script's run there, and the lines of that
-abbrev pub records_from : List Commit → Nodes → List (List ℕ)
-records_from [] t = []
-records_from (commit ∷ commits) t =
-    record_spelling (label_of commit) (access_of (run_entry commit.entry t).acts t) (lines_of (run_entry commit.entry t).acts)
-    ∷ records_from commits (run_entry commit.entry t).tree
-
--- the checkpoint is of the first of these commits, and the records behind it are those of the others
-pub record EncodesList (encoded : Encoded) (commits : List Commit) : Type 0 where
-  pub front : List Commit
-  pub later : List Commit
-  pub split : commits ≡ front ++ later
-  pub spells : IsBody encoded.version encoded.body (state_of front)
-  pub records : encoded.bodies ≡ records_from later (tree_after front)
-
--- a disk that is not started has no commits
-abbrev pub HasList : Decoded → List Commit → Type 0
-HasList (Encodes encoded) commits = EncodesList encoded commits
-HasList NotStarted commits = commits ≡ []
-HasList decoded commits = ⊥
-
--- The bytes stand for the state of this list, which has so many commits. As many records were ever appended to them; they have a
--- checkpoint of its first commits, and the records of the others.
-pub record IsImage (bytes : List ℕ) (count : ℕ) (commits : List Commit) : Type 0 where
-  pub stands : StandFor bytes (state_of commits)
-  pub list : HasList (decoded header bytes) commits
-  pub many : records_in bytes ≡ count
-  pub counted : count ≡ length commits
 
 -- ---- of both disks
 
@@ -45,16 +17,6 @@ pub record IsImage (bytes : List ℕ) (count : ℕ) (commits : List Commit) : Ty
 pub record AreImages (image : Image) (count : ℕ) (commits : List Commit) : Type 0 where
   pub disk : IsImage image.disk count commits
   pub backup : If (λ bytes. IsImage bytes count commits) image.backup
-
--- The second one lacks the last commit of the longer list: it stands for the list before it. That commit's record is the last one of the
--- first, and a start from both can bring the second up.
-pub record LacksCommit (one other : List ℕ) (count : ℕ) (commits longer : List Commit) : Type 0 where
-  pub commit : Commit
-  pub is : longer ≡ commits ++ commit ∷ []
-  pub image : IsImage other count commits
-  pub lacks : LacksLast rules one other (state_of longer)
-  pub before : lacks.before ≡ state_of commits
-  pub follows : MayFollow one other
 
 -- in the midst of a commit the first one has it, and the second has it or lacks it
 pub record AreTurning (image : Image) (count : ℕ) (commits longer : List Commit) : Type 0 where

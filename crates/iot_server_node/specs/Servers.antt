@@ -220,15 +220,6 @@ answered_since false n = 0
 
 -- ---- submissions
 
--- this label, this access and these lines are those of a commit, whose script is run on this tree
-pub record AreOf (commit : Commit) (tree : Nodes) (label : Label) (access : Access) (lines : List (List ℕ)) : Type 0 where
-  pub has_label : label_of commit ≡ label
-  pub has_access : access_of (run_entry commit.entry tree).acts tree ≡ access
-  pub has_lines : lines_of (run_entry commit.entry tree).acts ≡ lines
-  pub made : (run_entry commit.entry tree).tree ≡ after_updates tree access.updates
-  -- so that the tree that it makes has a spelling
-  pub spelled : IsSpelledEntry commit.entry
-
 -- this label, these acts, their access and this name are those of a submission, whose script was run on some tree
 pub record IsSubmission (label : Label) (acts : List Act) (access : Access) (transaction : Transaction) (it : Submission) : Type 0 where
   pub name : it.name ≡ transaction_name transaction.client transaction.number

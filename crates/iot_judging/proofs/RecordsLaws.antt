@@ -1,11 +1,18 @@
 -- The records of a list in two parts, and the record of its last commit.
-use Rattle.iot_server_node.proofs.Common.{◌≡◌, ℕ, List, [], ◌∷◌, ◌++◌, refl, sym, ap, ◌∙◌, append_assoc, map-append, label_of, records_from}
-use Rattle.iot_server_node.proofs.Common.{EncodesList}
+use Rattle.std.proofs.Common.{◌≡◌, ℕ, List, [], ◌∷◌, ◌++◌, refl, sym, ap, ◌∙◌, append_assoc}
+use Rattle.std.proofs.lemmas.List.{map-append}
 use Rattle.iot_access.specs.Access.{access_of, lines_of}
 use Rattle.iot_backup.specs.Start.{last_of, last_or}
+use Rattle.iot_exec.specs.Serial.{Entry, run_entry, tree_from}
+use Rattle.iot_judging.specs.Records.{records_from, EncodesList}
+use Rattle.iot_machine.specs.Machine.{Commit, entries_of, tree_after}
+use Rattle.iot_machine.specs.Recorded.{label_of}
+use Rattle.iot_slots.specs.Decoding.{State as Encoded}
+use Rattle.iot_slots.specs.Slots.{appended}
+use Rattle.iot_store.specs.Records.{record_spelling}
+use Rattle.iot_tree.specs.Tree.{Nodes, root_alone}
 use Rattle.iot_tree.specs.declared.labels.Way.{Way}
-use Rattle.iot_server_node.specs.Prelude.{Nodes, root_alone, Dir, Entry, run_entry, tree_from, record_spelling, Commit, entries_of}
-use Rattle.iot_server_node.specs.Prelude.{tree_after, Encoded, appended}
+use Rattle.iot_tree.specs.declared.nodes.Node.TheVariants.{Dir}
 
 tree_from_more : (front later : List (Entry Way)) (tree : Nodes) → tree_from (front ++ later) tree ≡ tree_from later (tree_from front tree)
 tree_from_more [] later tree = refl
