@@ -1,7 +1,6 @@
 -- The server's backup: how it is armed, and how the server goes on from it.
 use Rattle.std.proofs.lemmas.Option.{same_Some}
-use Rattle.std.specs.Prelude.{is_some}
-use Rattle.iot_server_node.proofs.Common.{◌≡◌, ◌+◌, ℕ, Bool, true, false, List, Option, Some, None, option_map, IsSome, refl}
+use Rattle.iot_server_node.proofs.Common.{◌≡◌, ◌+◌, ℕ, Bool, true, false, List, Option, Some, None, option_map, refl}
 use Rattle.iot_server_node.proofs.Common.{sym, ap, subst}
 use Rattle.iot_server_node.proofs.Common.{◌∙◌, inl, inr, arith, lists, ServerStands, disk_of}
 use Rattle.iot_disk.specs.declared.disk.Pick.{Pick}
@@ -9,139 +8,75 @@ use Rattle.iot_machine.specs.Nodes.{Counts}
 use Rattle.iot_node.specs.Disks.{KeepsImages}
 use Rattle.iot_node.specs.Posts as posts
 use Rattle.iot_node.proofs.PostsLaws.{fewer, holds_on}
-use Rattle.iot_server_node.specs.Disks.{ArmsOther, IsPlaced, MayLeave, MayLeaveOf, Sides, on_both, placed, sides, sides_of, turned}
+use Rattle.iot_server_node.specs.Disks.{ArmsOther, Image, IsPlaced, MayLeave, Sides, on_both, placed, sides, sides_of}
 use Rattle.iot_server_node.specs.Keepers.{disks_in, traffic_in}
-use Rattle.iot_server_node.specs.Prelude.{Arms, CameIf, Commit, ComesBackAs, Disks, Doubt, Down, Up, If, IsStanding, Lasts, Medium}
+use Rattle.iot_server_node.specs.Prelude.{Arms, CameIf, Commit, ComesBackAs, Disks, Doubt, Down, Up, Lasts, Medium}
 use Rattle.iot_server_node.specs.Prelude.{Node, Post}
 use Rattle.iot_server_node.specs.Prelude.{PostStands, Refines, HoldsBy, ServerKeeper, ServerNode, arming_as, armed, armed_with}
 use Rattle.iot_server_node.specs.Prelude.{counts_on}
 use Rattle.iot_server_node.specs.Prelude.{is_on, kept_text, promote_words, server_name}
-use Rattle.iot_server_node.specs.Servers.{ArmsServersBackup, HasAnsweredIn, HasOther, IsBeside, NodeIsKnown}
+use Rattle.iot_server_node.specs.Servers.{ArmsServersBackup, HasAnswered, HasBackup, HasOther}
+use Rattle.iot_server_node.specs.Records.{AreSo}
 use Rattle.iot_server_node.specs.Servers.{KeepsCommits, Promotes}
-use Rattle.iot_server_node.specs.Servers.{ServerIsSound, given_up_in, is_promoted, is_up, turned_post}
+use Rattle.iot_server_node.specs.Servers.{given_up_in, is_promoted, is_up, turned_post}
 use Rattle.iot_server.specs.declared.traffic.Traffic.{Traffic}
 use Rattle.iot_server_node.proofs.BeginningLaws.{lasts_go_on}
-use Rattle.iot_server_node.proofs.PairsLaws.{both_stand, other_left}
+use Rattle.iot_server_node.proofs.PairsLaws.{both_so, other_left}
 use Rattle.iot_server_node.proofs.ServersLaws.{Posted, known_comes_back}
 
 -- ---- which disks there are
 
 module _ {D : Type 0} (medium : Medium D) where
-  given_up_is : (promoted : Bool) (arms : Arms) (given_up : Option D) → option_map medium.arms given_up ≡ (sides promoted arms).given_up
-      → is_some given_up ≡ promoted
-  given_up_is false arms None is = refl
-  given_up_is true arms (Some disk) is = refl
-  given_up_is promoted arms given_up is = absurd cc
-
-  -- a server with them has them
-  has_by : (o : Option (Disks D)) (s : Sides) → option_map (sides_of medium) o ≡ Some s
-      → (disks : Disks D) × (o ≡ Some disks) × (sides_of medium disks ≡ s)
-  has_by None s is = absurd cc
-  has_by (Some disks) s is = (disks, refl, same_Some _ _ is)
-
-  -- whether it was promoted can be seen
-  pub promoted_is : (server : ServerNode D) (promoted : Bool) (arms : Arms) → IsBeside medium server promoted arms
-      → is_promoted server ≡ promoted
-  promoted_is server promoted arms it =
-      let has = has_by (disk_of server) _ it.is in
-      ap given_up_in has.1 ∙ given_up_is promoted arms has.0.given_up (ap (λ (s : Sides). s.given_up) has.2)
-
-  -- the disks in their places, and how the other one was armed
-  pub record HasSides (disks : Disks D) (promoted : Bool) (arms : Arms) : Type 0 where
+  -- there are disks, and they are in their places
+  pub record ArePlaced (disks : Option (Disks D)) (promoted : Bool) : Type 0 where
     pub first : D
     pub last : D
-    pub is : disks ≡ placed promoted first last
-    pub other : (sides_of medium (placed promoted first last)) ≡ sides promoted arms
+    pub is : disks ≡ Some (placed promoted first last)
 
-  has_sides_by : (promoted : Bool) (arms : Arms) (disk : D) (backup given_up : Option D)
+  placed_by : (promoted : Bool) (arms : Arms) (disk : D) (backup given_up : Option D)
       → sides_of medium (record { disk = disk; backup = backup; given_up = given_up }) ≡ sides promoted arms
-      → HasSides (record { disk = disk; backup = backup; given_up = given_up }) promoted arms
-  has_sides_by false arms disk (Some backup) None same = record { first = disk; last = backup; is = refl; other = same }
-  has_sides_by true arms disk None (Some given_up) same = record { first = given_up; last = disk; is = refl; other = same }
-  has_sides_by promoted arms disk backup given_up same =
+      → ArePlaced (Some (record { disk = disk; backup = backup; given_up = given_up })) promoted
+  placed_by false arms disk (Some backup) None same = record { first = disk; last = backup; is = refl }
+  placed_by true arms disk None (Some given_up) same = record { first = given_up; last = disk; is = refl }
+  placed_by promoted arms disk backup given_up same =
       let one = ap (λ (s : Sides). s.backup) same in
       let other = ap (λ (s : Sides). s.given_up) same in absurd cc
 
-  pub has_sides : (disks : Disks D) (promoted : Bool) (arms : Arms) → sides_of medium disks ≡ sides promoted arms
-      → HasSides disks promoted arms
-  has_sides disks promoted arms same = has_sides_by promoted arms disks.disk disks.backup disks.given_up same
+  pub placed_in : (disks : Option (Disks D)) (promoted : Bool) (arms : Arms)
+      → option_map (sides_of medium) disks ≡ Some (sides promoted arms) → ArePlaced disks promoted
+  placed_in None promoted arms is = absurd cc
+  placed_in (Some disks) promoted arms is = placed_by promoted arms disks.disk disks.backup disks.given_up (same_Some _ _ is)
 
-  pub is_placed : (disks : Disks D) (promoted : Bool) (arms : Arms) → sides_of medium disks ≡ sides promoted arms → IsPlaced disks
-  is_placed disks promoted arms same =
-      let it = has_sides disks promoted arms same in
-      record { promoted = promoted; first = it.first; last = it.last; is = it.is }
+  pub is_placed : (server : ServerNode D) → HasOther medium server → (disks : Disks D) → disk_of server ≡ Some disks → IsPlaced disks
+  is_placed server other disks has =
+      let it = placed_in (disk_of server) other.promoted other.arms other.beside.is in
+      record { promoted = other.promoted; first = it.first; last = it.last; is = same_Some _ _ (sym has ∙ it.is) }
 
-  -- ---- they are given back
+  -- one that is down, and was not promoted, has its backup
+  down_by : (post : Post (ServerKeeper D) (Disks D)) (promoted : Bool) → is_on post ≡ false
+      → given_up_in (posts.disk_of disks_in post) ≡ false → ArePlaced (posts.disk_of disks_in post) promoted
+      → HasBackup (record { post = post })
+  down_by (Down fallen) false off own it = record {
+    first = it.first;
+    last = it.last;
+    doubt = fallen.doubt;
+    is = λ i. Down (record { disk = same_Some _ _ it.is i; doubt = fallen.doubt });
+  }
+  down_by post promoted off own it = let given_up = ap given_up_in it.is in absurd cc
 
-  pub some_disks : (server : ServerNode D) → HasOther medium server → IsSome (disk_of server)
-  some_disks server other = rw (has_by (disk_of server) _ other.beside.is).1 refl
-
-  pub has_disks : (server : ServerNode D) → HasOther medium server → (disks : Disks D) → disk_of server ≡ Some disks → IsPlaced disks
-  has_disks server other disks has =
-      is_placed disks other.promoted other.arms (same_Some _ _ (sym (ap (option_map (sides_of medium)) has) ∙ other.beside.is))
-
-  -- those of one that is alive
-  pub up_placed : (server : ServerNode D) → HasOther medium server → (keeper : ServerKeeper D) → server.post ≡ Up keeper
-      → IsPlaced (disks_in keeper)
-  up_placed server other keeper is =
-      has_disks server other (disks_in keeper)
-      (ap (λ (post : Post (ServerKeeper D) (Disks D)). posts.disk_of disks_in post) is)
-
-  -- one that is down, with its first disk, and a backup that was armed so
-  pub record IsDown (server : ServerNode D) (arms : Arms) : Type 0 where
-    pub first : D
-    pub last : D
-    pub doubt : Option Doubt
-    pub is : server.post ≡ Down (record { disk = placed false first last; doubt = doubt })
-    pub other : medium.arms last ≡ arms
-
-  down_by : (post : Post (ServerKeeper D) (Disks D)) (arms : Arms) → is_on post ≡ false
-      → option_map (sides_of medium) (posts.disk_of disks_in post) ≡ Some (sides false arms) → IsDown (record { post = post }) arms
-  down_by (Down fallen) arms off side =
-      let it = has_sides fallen.disk false arms (same_Some _ _ side) in
-      record {
-        first = it.first;
-        last = it.last;
-        doubt = fallen.doubt;
-        is = λ i. Down (record { disk = it.is i; doubt = fallen.doubt });
-        other = same_Some _ _ (ap (λ (s : Sides). s.backup) it.other);
-      }
-  down_by post arms off side = absurd cc
-
-  pub is_down : (server : ServerNode D) → is_up server ≡ false → is_promoted server ≡ false → (other : HasOther medium server)
-      → IsDown server other.arms
-  is_down server down own other =
-      let not = sym (promoted_is server other.promoted other.arms other.beside) ∙ own in
-      down_by server.post other.arms down (other.beside.is ∙ ap (λ (promoted : Bool). Some (sides promoted other.arms)) not)
-
-  -- what becomes of it when its first disk is given up
-  pub turns_down : (server : ServerNode D) → is_up server ≡ false → is_promoted server ≡ false → HasOther medium server → (disks : Disks D)
-      → (doubt : Option Doubt) → (after : Disks D) {post : Post (ServerKeeper D) (Disks D)}
-      → server.post ≡ Down (record { disk = disks; doubt = doubt })
-      → ((first last : D) → disks ≡ placed false first last → after ≡ placed true first last)
-      → post ≡ Down (record { disk = after; doubt = doubt }) → post ≡ turned_post server.post
-  turns_down server down own other disks doubt after is turn made =
-      let it = is_down server down own other in
-      let same : disks ≡ placed false it.first it.last =
-      same_Some _ _ (ap (λ (post : Post (ServerKeeper D) (Disks D)). posts.disk_of disks_in post) (sym is ∙ it.is)) in
-      made
-      ∙ ap (λ (d : Disks D). Down (record { disk = d; doubt = doubt })) (turn it.first it.last same ∙ sym (ap turned same))
-      ∙ sym (ap turned_post is)
-
--- they are in their places
-pub given_back : {D : Type 0} (server : ServerNode D) (disks : Disks D) (first last : D) → disk_of server ≡ Some disks
-    → disks ≡ placed (is_some disks.given_up) first last → disk_of server ≡ Some (placed (is_promoted server) first last)
-given_back server disks first last has same =
-    has ∙ ap (λ (d : Disks _). Some d) same
-    ∙ ap (λ (b : Bool). Some (placed b first last)) (sym (ap given_up_in has))
+  pub has_backup : (server : ServerNode D) → is_up server ≡ false → is_promoted server ≡ false → HasOther medium server → HasBackup server
+  has_backup server down own other =
+      down_by server.post other.promoted down own (placed_in (disk_of server) other.promoted other.arms other.beside.is)
 
 -- ---- it goes on from its backup
 
 module _ {D : Type 0} (medium : Medium D) (is_image : (disk : D) → medium.may_leave disk (medium.reads disk))
     (says : List Commit → List Commit → List ℕ) where
-  -- no backup, no image of one
-  no_backup : (P : List ℕ → Type 0) (image : Option (List ℕ)) → MayLeaveOf {D = D} medium None image → If P image
-  no_backup P image left = other_left medium P None image tt left
+  -- an image of both, of which there is no backup
+  alone : {P : List ℕ → Type 0} {Q : (one other : List ℕ) → Type 0} (first last : D) (image : Image)
+      → MayLeave medium (placed true first last) image → P image.disk → AreSo P Q image
+  alone {Q = Q} first last image left is =
+      record { disk = is; backup = other_left medium (Q image.disk) None image.backup tt left.backup }
 
   -- the backup holds what both held
   turned_holds : (first last : D) (count : ℕ) (doubt : Option Doubt) (arms : Arms) (node : Node (List Commit))
@@ -149,8 +84,10 @@ module _ {D : Type 0} (medium : Medium D) (is_image : (disk : D) → medium.may_
       → HoldsBy (lists medium) (on_both medium) says (MayLeave medium (placed true first last)) count doubt (arming_as arms node)
   turned_holds first last count None arms node it = record {
     sure = it.sure;
-    each = both_stand medium (placed true first last) count node.durable (λ i at.
-        (it.each.each (record { disk = medium.reads first; backup = Some i }) (record { disk = is_image first; backup = at })).backup) tt;
+    each = both_so medium (placed true first last) (λ i at. (
+      (it.each.each (record { disk = medium.reads first; backup = Some i }) (record { disk = is_image first; backup = at })).backup,
+      tt,
+    ));
   }
   turned_holds first last count (Some doubt) arms node it = record {
     after = it.after;
@@ -159,10 +96,10 @@ module _ {D : Type 0} (medium : Medium D) (is_image : (disk : D) → medium.may_
       each = λ image left.
           elim (it.each.each (record { disk = medium.reads first; backup = Some image.disk })
           (record { disk = is_image first; backup = left.disk })) [
-            | inl both ↦ inl (record { disk = both.backup; backup = no_backup _ image.backup left.backup })
+            | inl both ↦ inl (alone first last image left both.backup)
             | inr turning ↦ elim turning.backup [
-              | inl lacks ↦ inl (record { disk = lacks.image; backup = no_backup _ image.backup left.backup })
-              | inr has ↦ inr (record { disk = has; backup = no_backup _ image.backup left.backup })
+              | inl lacks ↦ inl (alone first last image left lacks.image)
+              | inr has ↦ inr (alone first last image left has)
             ]
           ];
     };
@@ -195,46 +132,39 @@ module _ {D : Type 0} (medium : Medium D) (arms : Arms) (node : Node (List Commi
       record { image = came.image; left = came.left; count = came.count; said = came.said }
   came_as on post words x y came = tt
 
-  lasts_as : (post : Post (ServerKeeper D) (Disks D)) → Lasts (lists medium) (on_both medium) post (arming_as arms node)
-      → Lasts (lists medium) (on_both medium) post node
-  lasts_as post it = record { disk = it.disk; has = it.has; count = it.count; each = it.each }
-
 -- ---- a promotion
 
-module _ {D : Type 0} (medium : Medium D) (is_image : (disk : D) → medium.may_leave disk (medium.reads disk)) (old : ServerNode D)
-    {arms : Arms} (it : IsDown medium old arms) where
+module _ {D : Type 0} (medium : Medium D) (is_image : (disk : D) → medium.may_leave disk (medium.reads disk)) {old : ServerNode D}
+    (it : HasBackup old) where
+  abbrev arms : Arms
+  arms = medium.arms it.last
+
   -- over the backup it stands for the node that is armed as that was
   pub over : {names : List (List ℕ)} {node : Node (List Commit)} {n : ℕ} → ServerStands medium names old node n
       → Posted medium names (turned_post old.post) (arming_as arms node)
   over {names} {node} here =
-      subst (λ (a : Arms). Posted medium names (turned_post old.post) (arming_as a node)) it.other
-      (rw it.is (turned_stands medium is_image (kept_text names) it.first it.last it.doubt node (rw it.is at here.post)))
-
-  pub promotes_standing : ServerIsSound medium old → IsStanding (lists medium) (on_both medium) (turned_post old.post)
-  promotes_standing sound =
-      record { says = kept_text sound.names; node = arming_as arms sound.node; stands = over sound.stands }
+      subst (λ (post : Post (ServerKeeper D) (Disks D)). Posted medium names (turned_post post) (arming_as arms node)) (sym it.is)
+      (turned_stands medium is_image (kept_text names) it.first it.last it.doubt node (rw it.is at here.post))
 
   -- what came of a call that starts it from the backup
   pub promotes : (new : ServerNode D) (x y : List ℕ)
       → option_map (sides_of medium) (disk_of new) ≡ option_map (sides_of medium) (posts.disk_of disks_in (turned_post old.post))
       → (names : List (List ℕ)) (on : Bool)
       → Refines (Posted medium names) (ComesBackAs promote_words server_name (kept_text names)) (turned_post old.post) new.post x y on
-      → HasAnsweredIn 0 new.post → Promotes medium names old new x y
+      → HasAnswered 0 new.post → Promotes medium names old new x y
   promotes new x y same names on steps answered = record {
     step = λ node n side here beside.
-        let armed : arms ≡ side = sym it.other ∙ same_Some _ _ (ap (λ (s : Sides). s.backup)
-        (same_Some _ _ (sym (ap (λ (post : Post _ _). option_map (sides_of medium) (posts.disk_of disks_in post)) it.is) ∙ beside.is))) in
+        let armed : arms ≡ side =
+        same_Some _ _ (ap (λ (s : Sides). s.backup) (same_Some _ (sides false side) (rw it.is at beside.is))) in
         let s = steps.step (arming_as side node)
         (subst (λ (a : Arms). Posted medium names (turned_post old.post) (arming_as a node)) armed (over here)) in
-        let known : NodeIsKnown names (arming_as side node) =
-        record { durable = here.known.durable; doubt = here.known.doubt; longer = here.known.longer } in
         let was = rw it.is at here.post in (
           s.0,
           on,
           s.1,
           s.2,
           s.3,
-          record { post = s.4; known = known_comes_back names promote_words on _ s.1 s.0 s.3 known; answered = answered },
+          record { post = s.4; known = known_comes_back names promote_words on _ s.1 s.0 s.3 here.known; answered = answered },
           record { is = (rw it.is at same) ∙ ap (λ (c : Counts). Some (sides true c.arms)) was.counts },
         );
   }
@@ -244,8 +174,9 @@ module _ {D : Type 0} (medium : Medium D) (is_image : (disk : D) → medium.may_
       → Lasts (lists medium) (on_both medium) new.post node) → KeepsCommits medium old new
   promotes_records new lasts = record {
     keeps = λ names node n here.
+        let it = lasts names (arming_as arms node) (over here) in
         lasts_go_on medium names new.post node here.known
-        (lasts_as medium arms node new.post (lasts names (arming_as arms node) (over here)));
+        (record { disk = it.disk; has = it.has; count = it.count; each = it.each });
   }
 
   pub promotes_came : (on : Bool) (names : List (List ℕ)) (n : ℕ) (node : Node (List Commit)) (x y : List ℕ)
@@ -293,7 +224,7 @@ module _ {D : Type 0} (medium : Medium D) (calls : ℕ) (pick : Pick) where
           count = here.post.count;
           stands = still here.post.count node.durable here.post.stands;
         };
-        known = record { durable = here.known.durable; doubt = here.known.doubt; longer = here.known.longer };
+        known = here.known;
         answered = ap (λ (t : Traffic). t.requests) live ∙ here.answered;
       })
 
@@ -313,6 +244,6 @@ module _ {D : Type 0} (medium : Medium D) (calls : ℕ) (pick : Pick) where
               (fewer (lists medium) (on_both medium) (kept_text names) (MayLeave medium was) (MayLeave medium now) images.was)
               here.post.holds;
         };
-        known = record { durable = here.known.durable; doubt = here.known.doubt; longer = here.known.longer };
+        known = here.known;
         answered = tt;
       })

@@ -1,30 +1,29 @@
 -- From which states each image of the server's disks goes on.
-use Rattle.iot_server_node.proofs.Common.{◌≡◌, ◌⊎◌, ℕ, List, [], ◌∷◌, ◌++◌, Option, option_map, inl, inr, refl, sym, subst}
-use Rattle.iot_server_node.proofs.Common.{lists, Handles, IsImage, state_of, disk_of, ServerStands}
+use Rattle.iot_server_node.proofs.Common.{◌≡◌, ℕ, List, [], ◌∷◌, ◌++◌, Option, inl, inr, refl, sym, subst}
+use Rattle.iot_server_node.proofs.Common.{Some, lists, IsImage, state_of, disk_of, ServerStands}
 use Rattle.iot_slots.specs.declared.version.Version.TheVariants.{Two}
 use Rattle.iot_server_node.specs.Prelude.{PostStands, kept_text}
-use Rattle.iot_server_node.specs.Prelude.{Medium, JournalFault, Commit, Node, Lasts, Post, Server, IsRecord, Leads, StandFor, State, rules}
-use Rattle.iot_server_node.specs.Prelude.{Disks, EachStays, Encoded, If, Storing, disk_on, images_of, state_on}
+use Rattle.iot_server_node.specs.Prelude.{Medium, JournalFault, Commit, Node, Lasts, Post, IsRecord, Leads, StandFor, State, rules}
+use Rattle.iot_server_node.specs.Prelude.{Disks, EachStays, Encoded, If, Storing, images_of, state_on}
 use Rattle.iot_server_node.specs.Prelude.{CanFollow, after_commit, next, Request, ServerKeeper, ServerNode, Label, IsAnswered}
 use Rattle.iot_server_node.specs.Prelude.{IsMessage, IsRequest, request_spelling}
 use Rattle.iot_disk.specs.declared.faults.JournalFault.TheVariants as append
 use Rattle.iot_durable.proofs.StandingLaws.{leads_push}
 use Rattle.iot_node.specs.Posts as posts
 use Rattle.iot_server.specs.Servers as servers
-use Rattle.iot_store.proofs.PartsLaws.{changes_if, if_mapped}
-use Rattle.iot_server_node.proofs.PairsLaws.{other_left}
+use Rattle.iot_store.proofs.PartsLaws.{changes_if}
+use Rattle.iot_server_node.proofs.PairsLaws.{server_so, so_as}
 use Rattle.iot_store.proofs.StandingLaws.{second_stays, store_alone, store_stays}
 use Rattle.iot_store.specs.Standing.{EachStandsEither}
 use Rattle.iot_backup.proofs.PairsLaws.{if_so}
-use Rattle.iot_server.specs.Faults.{CutsOff, Stays}
-use Rattle.iot_slots.specs.declared.slots.Slots.{Slots}
+use Rattle.iot_server.specs.Faults.{Stays}
 use Rattle.iot_tree.specs.declared.access.Access.{Access}
 use Rattle.iot_wire.specs.declared.requests.Request.TheVariants as requests
 use Rattle.iot_server_node.specs.Disks.{Image, on_both, reads_may_leave}
-use Rattle.iot_server_node.specs.Keepers.{RefusesFor, disks_in}
-use Rattle.iot_server_node.specs.Records.{AreImages, AreTurning, GoOnFrom, GoesOnFrom, EachGoesOn, DiskGoesOn, KeepsRecords, LacksCommit}
-use Rattle.iot_server_node.specs.Servers.{IsOneMore, IsOneMoreIfAny, NodeIsKnown, ServerIsSound, KeepsCommits, Handled, Refused}
-use Rattle.iot_server_node.proofs.ServersLaws.{lasts, recorded}
+use Rattle.iot_server_node.specs.Keepers.{Cuts, Handles, Refuses, RefusesFor, disks_in}
+use Rattle.iot_server_node.specs.Records.{GoesOnFrom, EachGoesOn, DiskGoesOn, KeepsRecords}
+use Rattle.iot_server_node.specs.Servers.{IsOneMore, IsOneMoreIfAny, NodeIsKnown, ServerIsSound, KeepsCommits}
+use Rattle.iot_server_node.proofs.ServersLaws.{lasts, live, recorded}
 
 -- ---- one image
 
@@ -37,24 +36,6 @@ pub image_goes_on : (bytes : List ℕ) (n : ℕ) (commits longer : List Commit) 
     → GoesOnFrom (state_of commits) bytes
 image_goes_on bytes n commits longer more image =
     record { state = state_of longer; stands = image.stands; records = more.body ∷ []; leads = more.leads }
-
--- ---- an image of both disks
-
-both_go_on : (image : Image) (n : ℕ) (commits : List Commit) → AreImages image n commits → GoOnFrom (state_of commits) image
-both_go_on image n commits is = record {
-  disk = own_goes_on image.disk n commits is.disk;
-  backup = if_so _ _ (λ bytes. own_goes_on bytes n commits) image.backup is.backup;
-}
-
-turning_goes_on : (image : Image) (n : ℕ) (commits longer : List Commit) → IsOneMore commits longer → AreTurning image n commits longer
-    → GoOnFrom (state_of commits) image
-turning_goes_on image n commits longer more is = record {
-  disk = image_goes_on image.disk (next n) commits longer more is.disk;
-  backup = if_so (λ bytes. LacksCommit image.disk bytes n commits longer ⊎ IsImage bytes (next n) longer) _ (λ bytes it. elim it [
-    | inl lacks ↦ own_goes_on bytes n commits lacks.image
-    | inr has ↦ image_goes_on bytes (next n) commits longer more has
-  ]) image.backup is.backup;
-}
 
 module _ {P : Type 0} (medium : Storing P Image) where
   -- ---- what it keeps
@@ -74,9 +55,14 @@ module _ {D : Type 0} (medium : Medium D) where
       rw it.has
       (record {
         each = λ image there. elim (it.each.each image there) [
-          | inl is ↦ both_go_on image it.count node.durable is
-          | inr more ↦ turning_goes_on image it.count node.durable more.0
-              (subst (IsOneMoreIfAny node.durable) more.1 known.longer) more.2
+          | inl is ↦ so_as is (λ i. own_goes_on i it.count node.durable) (λ i j. own_goes_on j it.count node.durable)
+          | inr more ↦
+              let one = subst (IsOneMoreIfAny node.durable) more.1 known.longer in
+              let goes_on = λ (j : List ℕ). image_goes_on j (next it.count) node.durable more.0 one in
+              so_as more.2 goes_on (λ i j so. elim so [
+                | inl lacks ↦ own_goes_on j it.count node.durable lacks.image
+                | inr has ↦ goes_on j has
+              ])
         ];
       })
 
@@ -103,34 +89,22 @@ module _ {D : Type 0} (medium : Medium D) where
 
 -- ---- a request
 
-module _ {D : Type 0} (medium : Medium D) (is_image : (disk : D) → medium.may_leave disk (medium.reads disk)) where
-  -- each image of a disk and of a backup, if each of them goes on from there
-  each_goes_on : (from : State) (disk : D) (second : Option (Slots D)) (given_up : Option D)
-      → ((i : List ℕ) → medium.may_leave disk i → GoesOnFrom from i)
-      → If (λ s. (j : List ℕ) → images_of medium s j → GoesOnFrom from j) second
-      → EachGoesOn (on_both medium) from (record { disk = disk; backup = option_map disk_on second; given_up = given_up })
-  each_goes_on from disk second given_up first also = record {
-    each = λ image left. record {
-      disk = first image.disk left.disk;
-      backup = other_left medium (GoesOnFrom from) (option_map disk_on second) image.backup
-          (if_mapped (λ b. (j : List ℕ) → medium.may_leave b j → GoesOnFrom from j) disk_on second also) left.backup;
-    };
-  }
-
+module _ {D : Type 0} (medium : Medium D) (is_image : (disk : D) → medium.may_leave disk (medium.reads disk)) (was now : ServerKeeper D)
+    (sound : ServerIsSound medium (live was)) where
   -- a server on whose disks nothing is under way
-  module _ (was now : Server D) (given_up : Option D) (synced : servers.IsSynced medium was) (from : State)
-      (had : EachGoesOn (on_both medium) from (disks_in (record { server = was; given_up = given_up }))) where
+  module _ (from : State) (had : EachGoesOn (on_both medium) from (disks_in was)) where
     abbrev before : State
-    before = servers.state_of was
+    before = servers.state_of was.server
 
     abbrev GoesOn : Type 0
-    GoesOn = EachGoesOn (on_both medium) from (disks_in (record { server = now; given_up = given_up }))
+    GoesOn = EachGoesOn (on_both medium) from (disks_in now)
 
     -- records lead from there to its state, for which alone its disk stands
     leads_here : (records : List (List ℕ)) × Leads (rules Two) records from before
     leads_here =
-        let first = (had.each _ (reads_may_leave medium is_image (disks_in (record { server = was; given_up = given_up })))).disk in
-        let same : first.state ≡ before = store_alone medium (servers.store_of was) synced first.state first.stands in
+        let first = (had.each _ (reads_may_leave medium is_image (disks_in was))).disk in
+        let same : first.state ≡ before =
+        store_alone medium (servers.store_of was.server) sound.stands.post.stands.synced first.state first.stands in
         (first.records, subst (λ (s : State). Leads (rules Two) first.records from s) same first.leads)
 
     same_on : {bytes : List ℕ} → StandFor bytes before → GoesOnFrom from bytes
@@ -149,64 +123,61 @@ module _ {D : Type 0} (medium : Medium D) (is_image : (disk : D) → medium.may_
     }
 
     -- bytes that stand for the state after a request
-    answered_on : {asked reply : List ℕ} {encoded : Encoded} {later : Encoded} (request : Request) {bytes : List ℕ}
+    answered_on : {asked reply : List ℕ} {encoded later : Encoded} (request : Request) {bytes : List ℕ}
         → IsMessage IsRequest request_spelling asked request
-        → IsAnswered before encoded request reply (servers.state_of now) later
-        → StandFor bytes (servers.state_of now) → GoesOnFrom from bytes
-    answered_on (requests.Refresh client known want) {bytes} is answered stands =
-        same_on (subst (StandFor bytes) answered.answers.1 stands)
-    answered_on (requests.Walk client profile limit) {bytes} is answered stands =
-        same_on (subst (StandFor bytes) answered.answers.3 stands)
-    answered_on (requests.Commit label access lines) {bytes} is answered stands = elim (recorded answered) [
-      | inl same ↦ same_on (subst (StandFor bytes) same.0 stands)
-      | inr more ↦ more_on is more.0 (subst (StandFor bytes) more.1 stands)
+        → IsAnswered before encoded request reply (servers.state_of now.server) later
+        → StandFor bytes (servers.state_of now.server) → GoesOnFrom from bytes
+    answered_on (requests.Refresh client known want) is answered stands = same_on (rw (sym answered.answers.1) stands)
+    answered_on (requests.Walk client profile limit) is answered stands = same_on (rw (sym answered.answers.3) stands)
+    answered_on (requests.Commit label access lines) is answered stands = elim (recorded answered) [
+      | inl same ↦ same_on (rw (sym same.0) stands)
+      | inr more ↦ more_on is more.0 (rw (sym more.1) stands)
     ]
+
+    -- what is so of each image of both disks
+    each_on : ((i : List ℕ) → medium.may_leave (servers.disk_of now.server) i → GoesOnFrom from i)
+        → If (λ s. (j : List ℕ) → images_of medium s j → GoesOnFrom from j) (servers.second_of now.server) → GoesOn
+    each_on first second = record { each = λ image. (server_so medium now (λ i at. (first i at, second))).each image }
 
     handled_on : {asked reply : List ℕ} → Handles medium asked reply was now → GoesOn
     handled_on it =
-        each_goes_on from (servers.disk_of now) (servers.second_of now) given_up (λ i there.
-        answered_on it.handled.first.request it.handled.first.is it.handled.first.answered
-        ((store_stays medium (servers.store_of now) it.synced).stands.each i there).stands)
-        (if_so (λ s. EachStays (images_of medium s) (servers.count_of now) (state_on medium s) (servers.state_of now))
-        _ (λ s stays j there. answered_on it.handled.first.request it.handled.first.is it.handled.first.answered
-        (stays.stands.each j there).stands)
-        (servers.second_of now) (second_stays medium (servers.store_of now) it.synced))
+        let done = it.handled.first in
+        each_on (λ i there. answered_on done.request done.is done.answered
+        ((store_stays medium (servers.store_of now.server) it.synced).stands.each i there).stands)
+        (if_so (λ s. EachStays (images_of medium s) (servers.count_of now.server) (state_on medium s) (servers.state_of now.server))
+        _ (λ s stays j there. answered_on done.request done.is done.answered (stays.stands.each j there).stands)
+        (servers.second_of now.server) (second_stays medium (servers.store_of now.server) it.synced))
 
     -- all stays
-    stays_on : Stays medium (servers.store_of was) (servers.store_of now) → GoesOn
+    stays_on : Stays medium (servers.store_of was.server) (servers.store_of now.server) → GoesOn
     stays_on it =
-        each_goes_on from (servers.disk_of now) (servers.second_of now) given_up
-        (λ i there. same_on (it.first.stands.each i there).stands)
-        (changes_if (λ old new. EachStays (images_of medium new) (servers.count_of was) (state_on medium old) (servers.state_of was)) _
-        (λ old new stays j there. same_on (stays.stands.each j there).stands) (servers.second_of was) (servers.second_of now) it.second)
+        each_on (λ i there. same_on (it.first.stands.each i there).stands)
+        (changes_if (λ old new. EachStays (images_of medium new) (servers.count_of was.server) (state_on medium old) before) _
+        (λ old new stays j there. same_on (stays.stands.each j there).stands) (servers.second_of was.server)
+        (servers.second_of now.server) it.second)
 
     -- a commit was cut off
-    cut_on : {asked : List ℕ}
-        → CutsOff medium (IsMessage IsRequest request_spelling asked) (servers.store_of was) (servers.store_of now) → GoesOn
+    cut_on : {asked : List ℕ} → Cuts medium asked was now → GoesOn
     cut_on it =
-        each_goes_on from (servers.disk_of now) (servers.second_of now) given_up (λ i there.
-        elim (it.either.each i there) [ inl same ↦ same_on same.stands | inr more ↦ more_on it.asked it.follows more.stands ])
-        (changes_if (λ old new. EachStandsEither (images_of medium new) (servers.count_of was) (servers.state_of was)
-        (after_commit (servers.state_of was) it.label it.access))
-        _ (λ old new either j there.
-        elim (either.each j there) [ inl same ↦ same_on same.stands | inr more ↦ more_on it.asked it.follows more.stands ])
-        (servers.second_of was) (servers.second_of now) it.second_either)
+        each_on (either_on it.either)
+        (changes_if (λ old new. EachStandsEither (images_of medium new) (servers.count_of was.server) before
+        (after_commit before it.label it.access)) _ (λ old new. either_on) (servers.second_of was.server) (servers.second_of now.server)
+        it.second_either)
+      where
+        either_on : {images : List ℕ → Type 0}
+            → EachStandsEither images (servers.count_of was.server) before (after_commit before it.label it.access) → (j : List ℕ)
+            → images j → GoesOnFrom from j
+        either_on either j there =
+            elim (either.each j there) [ inl same ↦ same_on same.stands | inr more ↦ more_on it.asked it.follows more.stands ]
 
     refused_by : (asked : List ℕ) (fault : JournalFault) → RefusesFor medium asked fault was now → GoesOn
     refused_by asked append.NoMemory lacks = elim lacks.either [ inl kept ↦ stays_on kept | inr cut ↦ cut_on cut ]
     refused_by asked append.Stopped stops = cut_on stops.0
 
-  pub handled_records : {asked reply : List ℕ} {old new : ServerNode D} → ServerIsSound medium old → Handled medium asked reply old new
-      → KeepsRecords (on_both medium) (disk_of old) (disk_of new)
-  handled_records sound it =
-      let sound = rw it.old_is at sound in
-      rw (it.old_is, it.new_is)
-      (record { keeps = λ from had. handled_on it.was it.now it.given_up sound.stands.post.stands.synced from had it.by })
+  pub handled_records : {asked reply : List ℕ} → Handles medium asked reply was now
+      → KeepsRecords (on_both medium) (Some (disks_in was)) (Some (disks_in now))
+  handled_records it = record { keeps = λ from had. handled_on from had it }
 
-  pub refused_records : (asked : List ℕ) (fault : JournalFault) {old mid : ServerNode D} (new : ServerNode D)
-      → ServerIsSound medium old → Refused medium asked fault old mid → disk_of new ≡ disk_of mid
-      → KeepsRecords (on_both medium) (disk_of old) (disk_of new)
-  refused_records asked fault new sound it same =
-      let sound = rw it.old_is at sound in
-      rw (same, it.old_is, it.new_is)
-      (record { keeps = λ from had. refused_by it.was it.now it.given_up sound.stands.post.stands.synced from had asked fault it.by.why })
+  pub refused_records : {asked : List ℕ} {fault : JournalFault} → Refuses medium asked fault was now
+      → KeepsRecords (on_both medium) (Some (disks_in was)) (Some (disks_in now))
+  refused_records {asked} {fault} it = record { keeps = λ from had. refused_by from had asked fault it.why }

@@ -1,16 +1,19 @@
 -- What the server's disks have counted, by what each has, and how they were armed.
-use Rattle.iot_server_node.proofs.Common.{◌⊎◌, ◌≡◌, ◌+◌, ℕ, List, Option, Some, None, option_map, refl, ap, inl, inr, arith}
+use Rattle.iot_server_node.proofs.Common.{◌≡◌, ◌+◌, ℕ, List, Option, Some, None, option_map, refl, ap, inl, inr, arith, Result, Err}
 use Rattle.iot_count.specs.Counts.{Rose, Stayed}
 use Rattle.iot_disk.specs.declared.faults.StartFault.{StartFault}
 use Rattle.iot_disk.specs.declared.faults.StartFault.TheVariants as start
 use Rattle.iot_durable.specs.Causes.{HasCause, HasDiskCause, TakesBytes}
 use Rattle.iot_machine.specs.Nodes.{Counts}
 use Rattle.iot_node.specs.Keeping.{CountsStart, Failed}
+use Rattle.iot_server.specs.Faults.{CountsServerFaults}
+use Rattle.iot_server.specs.declared.fault.ServerFault.{ServerFault}
+use Rattle.iot_server.specs.declared.fault.ServerFault.TheVariants as fault
 use Rattle.iot_server.specs.Servers as servers
 use Rattle.iot_slots.specs.declared.slots.Slots.{Slots}
 use Rattle.iot_server_node.specs.Disks.{faults_in, on_both, other_in}
 use Rattle.iot_server_node.specs.Keepers.{KeepsArms, disks_in}
-use Rattle.iot_server_node.specs.Prelude.{Changes, KeepsDisk, Medium, NoneRose, OneRose, Server, counts_on, disk_on, rules}
+use Rattle.iot_server_node.specs.Prelude.{Changes, KeepsDisk, Medium, NoneRose, OneRose, Server, ServerKeeper, counts_on, disk_on, rules}
 
 module _ {D : Type 0} (medium : Medium D) where
   abbrev counts : (disk : D) (backup given_up : Option D) → Counts
@@ -41,48 +44,47 @@ module _ {D : Type 0} (medium : Medium D) where
 
   -- ---- a request
 
-  module _ (was now : Server D) (given_up : Option D) (arms : KeepsArms medium was now) where
-    pub kept_counts : NoneRose medium (servers.first_of was) (servers.first_of now) (servers.second_of was) (servers.second_of now)
-        → counts_on (on_both medium) (disks_in (record { server = now; given_up = given_up }))
-        ≡ counts_on (on_both medium) (disks_in (record { server = was; given_up = given_up }))
+  module _ {was now : ServerKeeper D} (arms : KeepsArms medium was now) where
+    pub kept_counts : NoneRose medium (servers.first_of was.server) (servers.first_of now.server) (servers.second_of was.server)
+        (servers.second_of now.server)
+        → counts_on (on_both medium) (disks_in now) ≡ counts_on (on_both medium) (disks_in was)
     kept_counts none =
-        let other = by (servers.second_of was) (servers.second_of now) none.1 in
+        let other = by (servers.second_of was.server) (servers.second_of now.server) none.1 in
         λ i. record { faults = none.0 i + other i; arms = arms.first i }
       where
         by : (old new : Option (Slots D))
             → Changes (λ old new. Stayed (medium.faults (disk_on old)) (medium.faults (disk_on new))) old new
-            → faults_in medium (other_in (option_map disk_on new) given_up) ≡ faults_in medium (other_in (option_map disk_on old) given_up)
+            → faults_in medium (other_in (option_map disk_on new) now.given_up)
+            ≡ faults_in medium (other_in (option_map disk_on old) was.given_up)
         by (Some old) (Some new) it = it
-        by None None it = refl
+        by None None it = ap (faults_in medium) arms.given_up
         by old new it = absurd it
 
-    pub failed_counts : OneRose medium (servers.first_of was) (servers.first_of now) (servers.second_of was) (servers.second_of now)
-        → Failed (counts_on (on_both medium) (disks_in (record { server = was; given_up = given_up })))
-        (counts_on (on_both medium) (disks_in (record { server = now; given_up = given_up })))
-    failed_counts one = record { faults = by (servers.second_of was) (servers.second_of now) one arms.second; arms = arms.first }
+    pub failed_counts : OneRose medium (servers.first_of was.server) (servers.first_of now.server) (servers.second_of was.server)
+        (servers.second_of now.server)
+        → Failed (counts_on (on_both medium) (disks_in was)) (counts_on (on_both medium) (disks_in now))
+    failed_counts one =
+        record { faults = by (servers.second_of was.server) (servers.second_of now.server) one arms.second; arms = arms.first }
       where
-        by : (old new : Option (Slots D)) → OneRose medium (servers.first_of was) (servers.first_of now) old new
+        by : (old new : Option (Slots D)) → OneRose medium (servers.first_of was.server) (servers.first_of now.server) old new
             → Changes (λ old new. medium.arms (disk_on new) ≡ medium.arms (disk_on old)) old new
-            → Rose (medium.faults (servers.disk_of was) + faults_in medium (other_in (option_map disk_on old) given_up))
-            (medium.faults (servers.disk_of now) + faults_in medium (other_in (option_map disk_on new) given_up))
-        by None None rose same = omega (arith, rose)
+            → Rose (medium.faults (servers.disk_of was.server) + faults_in medium (other_in (option_map disk_on old) was.given_up))
+            (medium.faults (servers.disk_of now.server) + faults_in medium (other_in (option_map disk_on new) now.given_up))
+        by None None rose same = omega (arith, rose, ap (faults_in medium) arms.given_up)
         by (Some old) (Some new) rose same = elim rose [ inl it ↦ omega (arith, it.0, it.1) | inr it ↦ omega (arith, it.0, it.1) ]
         by old new rose same = absurd same
 
-    abbrev Keeps : Type 0
-    Keeps = KeepsDisk (on_both medium) (Some (disks_in (record { server = was; given_up = given_up })))
-        (Some (disks_in (record { server = now; given_up = given_up })))
-
-    abbrev both_faults : Server D → ℕ
-    both_faults it = (on_both medium).faults (disks_in (record { server = it; given_up = given_up }))
-
-    keeps : (both_faults now ≡ both_faults was) ⊎ Rose (both_faults was) (both_faults now) → Keeps
-    keeps it = record { was = _; now = _; old_has = refl; new_has = refl; arms = arms.first; faults = it }
-
-    pub handled_disks : NoneRose medium (servers.first_of was) (servers.first_of now) (servers.second_of was) (servers.second_of now)
-        → Keeps
-    handled_disks none = keeps (inl (ap (λ (c : Counts). c.faults) (kept_counts none)))
-
-    pub stopped_disks : OneRose medium (servers.first_of was) (servers.first_of now) (servers.second_of was) (servers.second_of now)
-        → Keeps
-    stopped_disks one = keeps (inr (failed_counts one).faults)
+  -- however it was answered
+  pub disks_kept : {T : Type 0} (keeper : ServerKeeper D) (now : Server D) → KeepsArms medium keeper (record keeper { server = now })
+      → (result : Result T ServerFault) → CountsServerFaults medium result (servers.store_of keeper.server) (servers.store_of now)
+      → KeepsDisk (on_both medium) (Some (disks_in keeper)) (Some (disks_in (record keeper { server = now })))
+  disks_kept keeper now arms (Err fault.Stopped) one =
+      record { was = _; now = _; old_has = refl; new_has = refl; arms = arms.first; faults = inr (failed_counts arms one).faults }
+  disks_kept keeper now arms result none = record {
+    was = _;
+    now = _;
+    old_has = refl;
+    new_has = refl;
+    arms = arms.first;
+    faults = inl (ap (λ (c : Counts). c.faults) (kept_counts arms none));
+  }

@@ -2,16 +2,16 @@
 use Rattle.std.proofs.Math.Nat.{mod-add-mod}
 use Rattle.iot_server_node.proofs.Common.{◌≡◌, ℕ, suc, zero, ◌+◌, ◌%◌, ◌^◌, Bool, true, false, if◌then◌else◌, List, [], ◌∷◌, ◌++◌, length}
 use Rattle.iot_server_node.proofs.Common.{drop, Option, Some, None, IsSome, refl, sym, ap, subst, ◌∙◌, arith, inl, inr}
-use Rattle.iot_server_node.proofs.Common.{slice_index_or, length-append, lists, Handles, KeepsList, ServerStands, AreOf, EncodesList}
+use Rattle.iot_server_node.proofs.Common.{slice_index_or, length-append, lists, Handles, KeepsList, ServerStands, AreOf}
 use Rattle.iot_server_node.proofs.Common.{IsImage}
 use Rattle.iot_server_node.specs.Servers.{ServerIsSound}
-use Rattle.iot_server_node.proofs.Common.{disk_of, ◌⊎◌, state_of, bind, asks, nothing}
+use Rattle.iot_server_node.proofs.Common.{disk_of, ◌⊎◌, state_of}
 use Rattle.iot_slots.specs.declared.version.Version.TheVariants.{Two}
 use Rattle.iot_server_node.specs.Prelude.{Medium, Storing, Encoded, NotStarted, header, next, IsGrown, Leads, rules, State}
-use Rattle.iot_server_node.specs.Prelude.{Disks}
-use Rattle.iot_server_node.specs.Prelude.{after_commit, Server, Label, Call, paired, restart_words}
+use Rattle.iot_server_node.specs.Prelude.{Disks, If}
+use Rattle.iot_server_node.specs.Prelude.{after_commit, Label, Call, paired}
 use Rattle.iot_server_node.specs.Prelude.{Commit, add_commit, tree_after, Node, fallen, changed, back, unopened, Refines}
-use Rattle.iot_server_node.specs.Prelude.{server_name, kept_text, OpensNode, Appends, ComesBackAs, SettlesAs, Crashes, Restarts, ArmsDisk}
+use Rattle.iot_server_node.specs.Prelude.{server_name, kept_text, OpensNode, Appends, ComesBackAs, SettlesAs, Crashes, ArmsDisk}
 use Rattle.iot_server_node.specs.Prelude.{transaction_name, IsEmpty, KeepsDisk, counts_on, is_on, live_of, PostStands, HoldsBy}
 use Rattle.iot_server_node.specs.Prelude.{IsStanding, Lasts, StepsTo, Doubt, Post, Up, Down, Between, ServerKeeper, ServerNode}
 use Rattle.iot_disk.specs.declared.disk.Pick.{Pick}
@@ -23,8 +23,9 @@ use Rattle.iot_machine.specs.Serving.{added_text, commit_text}
 use Rattle.iot_node.specs.Posts as posts
 use Rattle.iot_server_node.specs.Disks.{Image, MayLeave, on_both, placed}
 use Rattle.iot_server_node.specs.Keepers.{Both, traffic_in}
-use Rattle.iot_server_node.specs.Servers.{is_up, IsKnown, AreKnown, AreKnownIfAny, IsOneMoreIfAny, NodeIsKnown, HasAnsweredIn}
-use Rattle.iot_server_node.specs.Servers.{HavingAnswered, IsUnopened, answered_since, live, IsLive, Lives}
+use Rattle.iot_server_node.specs.Servers.{is_up, IsKnown, AreKnown, IsOneMoreIfAny, NodeIsKnown, HasAnswered}
+use Rattle.iot_server_node.specs.Servers.{HavingAnswered, IsUnopened}
+use Rattle.iot_backup.proofs.PairsLaws.{if_so}
 use Rattle.iot_server_node.proofs.CountsLaws.{kept_counts}
 use Rattle.iot_certify.specs.declared.verdict.Verdict.TheVariants.{Holds, Differs}
 use Rattle.iot_server_node.proofs.DisksLaws.{both_only}
@@ -33,7 +34,7 @@ use Rattle.iot_server_node.specs.Prelude.{CanFollow, EncodesAfter, IsAnswered, R
 use Rattle.iot_store.proofs.NumbersLaws.{is_new_from}
 use Rattle.iot_store.specs.Numbers.{number_in}
 use Rattle.iot_wire.specs.declared.requests.Request.TheVariants as requests
-use Rattle.iot_server_node.proofs.PairsLaws.{both_stand}
+use Rattle.iot_server_node.proofs.PairsLaws.{both_so}
 use Rattle.iot_machine.proofs.FollowsLaws.{all_as, all_push, at_push}
 use Rattle.iot_machine.proofs.KeepsLaws.{asks_then, keeps_either, keeps_does, stays_says}
 use Rattle.iot_node.proofs.PostsLaws.{lasts_in as posts_lasts_in, on_is}
@@ -53,21 +54,15 @@ module _ (names : List (List ℕ)) where
   Keeps call a =
       (node after : Node (List Commit)) (text : List ℕ) → call node text a after → NodeIsKnown names node → NodeIsKnown names after
 
-  known_so : {node after other : Node (List Commit)} → after ≡ other → NodeIsKnown names node → other.durable ≡ node.durable
-      → other.doubt ≡ node.doubt → NodeIsKnown names after
-  known_so is known durable doubt =
-      rw is
-      (record { durable = rw durable known.durable; doubt = rw doubt known.doubt; longer = rw (durable, doubt) known.longer })
-
   pub known_opens : (on : Bool) → Keeps (OpensNode server_name) on
-  known_opens on node after text (inl is) known = known_so is.2 known refl refl
-  known_opens on node after text (inr is) known = known_so is.2.is known refl refl
+  known_opens on node after text (inl is) known = rw is.2 known
+  known_opens on node after text (inr is) known = rw is.2.is known
 
   known_back : (s : List Commit) (node after : Node (List Commit)) → after ≡ back s node → AreKnown names s → NodeIsKnown names after
   known_back s node after is known = subst (NodeIsKnown names) (sym is) (record { durable = known; doubt = tt; longer = tt })
 
   known_settled : (words : List ℕ) (doubt : Option (List Commit)) (node after : Node (List Commit)) (text : List ℕ)
-      → SettlesAs words (kept_text names) doubt node text after → AreKnown names node.durable → AreKnownIfAny names doubt
+      → SettlesAs words (kept_text names) doubt node text after → AreKnown names node.durable → If (AreKnown names) doubt
       → NodeIsKnown names after
   known_settled words None node after text is durable doubt = known_back node.durable node after is.1 durable
   known_settled words (Some s) node after text (inl is) durable doubt = known_back s node after is.1 doubt
@@ -76,15 +71,14 @@ module _ (names : List (List ℕ)) where
   pub known_comes_back : (words : List ℕ) (on : Bool) → Keeps (ComesBackAs words server_name (kept_text names)) on
   known_comes_back words on node after text (inl is) known =
       known_settled words node.doubt node after text is.1 known.durable known.doubt
-  known_comes_back words on node after text (inr is) known = known_so is.2.is known refl refl
+  known_comes_back words on node after text (inr is) known = rw is.2.is known
 
   pub known_armed : (calls : ℕ) (pick : Pick) → Keeps (ArmsDisk server_name calls pick) tt
-  known_armed calls pick node after text is known = known_so is.1 known refl refl
+  known_armed calls pick node after text is known = rw is.1 known
 
   pub known_crash : Keeps (Crashes server_name) tt
   known_crash node after text step known =
-      (asks_then (keeps_either (keeps_does (λ (m : Node (List Commit)) it. known_so {node = m} refl it refl refl)) stays_says)).at
-      node after text tt known step
+      (asks_then {R = λ _. NodeIsKnown names} (keeps_either (keeps_does (λ m it. it)) stays_says)).at node after text tt known step
 
   -- also if the server stops as it appends a commit that is known, and that can follow
   pub known_stopped : (commit : Commit) (node after : Node (List Commit)) (text body : List ℕ) → IsKnown names commit
@@ -105,10 +99,6 @@ module _ (names : List (List ℕ)) (name : List ℕ) where
         spelled = known.spelled;
         client = omega (arith, known.client, length-append names (name ∷ []));
       })
-
-  known_more_if_any : (commits : Option (List Commit)) → AreKnownIfAny names commits → AreKnownIfAny (names ++ name ∷ []) commits
-  known_more_if_any None known = tt
-  known_more_if_any (Some commits) known = known_more commits known
 
   -- what a list says that has one commit more is the same
   same_added : (before added : List Commit) → AreKnown names added
@@ -131,23 +121,22 @@ module _ (names : List (List ℕ)) (name : List ℕ) where
 -- ---- its post
 
 module _ {D : Type 0} where
-  pub answered_off : (post : Post (ServerKeeper D) (Disks D)) (n : ℕ) → is_on post ≡ false → HasAnsweredIn n post
+  -- a server that is alive
+  abbrev pub live : ServerKeeper D → ServerNode D
+  live keeper = record { post = Up keeper }
+
+  pub live_is : {server : ServerNode D} {keeper : ServerKeeper D} → server.post ≡ Up keeper → server ≡ live keeper
+  live_is is = λ i. record { post = is i }
+
+  pub answered_off : (post : Post (ServerKeeper D) (Disks D)) (n : ℕ) → is_on post ≡ false → HasAnswered n post
   answered_off (Up keeper) n off = absurd cc
   answered_off post n off = tt
 
   -- one that was just started has answered none
   pub answered_fresh : (post : Post (ServerKeeper D) (Disks D)) (on : Bool) → live_of traffic_in post ≡ if on then Some no_traffic else None
-      → HasAnsweredIn 0 post
-  answered_fresh (Up keeper) true is = cc
-  answered_fresh (Up keeper) false is = absurd cc
-  answered_fresh post on is = tt
-
-  pub answered_same : (old new : Post (ServerKeeper D) (Disks D)) (n : ℕ) → live_of traffic_in new ≡ live_of traffic_in old
-      → HasAnsweredIn n old
-      → HasAnsweredIn n new
-  answered_same (Up was) (Up now) n same had = cc
-  answered_same old (Up now) n same had = absurd cc
-  answered_same old new n same had = tt
+      → HasAnswered 0 post
+  answered_fresh post true is = rw is refl
+  answered_fresh post false is = rw is tt
 
   -- as it has a disk, it has the same after a call that leaves it
   pub keeps_same : {I : Type 0} (medium : Storing D I) (old new : Option D) → IsSome old → new ≡ old → KeepsDisk medium old new
@@ -156,22 +145,18 @@ module _ {D : Type 0} where
       record { was = disk; now = disk; old_has = refl; new_has = same; arms = refl; faults = inl refl }
 
 module _ {D : Type 0} (medium : Medium D) (names : List (List ℕ)) where
-  abbrev Stands : ℕ → ServerNode D → Node (List Commit) → Type 0
-  Stands n = HavingAnswered medium names n
-
   abbrev pub Posted : Post (ServerKeeper D) (Disks D) → Node (List Commit) → Type 0
   Posted = PostStands (lists medium) (on_both medium) (kept_text names)
 
   -- what its post does, it does, if what is known of its node stays so
   pub with_known : {A : Type 0} {call : Call (Node (List Commit)) A} {old new : ServerNode D} {n k : ℕ} {x y : List ℕ} {a : A}
       → Refines Posted call old.post new.post x y a
-      → ((node after : Node (List Commit)) (text : List ℕ) → Posted old.post node → call node text a after → NodeIsKnown names node
-      → NodeIsKnown names after)
-      → (HasAnsweredIn n old.post → HasAnsweredIn k new.post) → StepsTo (Stands n) (Stands k) call old new x y a
+      → Keeps names call a → (HasAnswered n old.post → HasAnswered k new.post) → StepsTo (HavingAnswered medium names n)
+      (HavingAnswered medium names k) call old new x y a
   with_known one keeps counts = record {
     step = λ node here.
         let s = one.step node here.post in
-        (s.0, s.1, s.2, s.3, record { post = s.4; known = keeps node s.1 s.0 here.post s.3 here.known; answered = counts here.answered });
+        (s.0, s.1, s.2, s.3, record { post = s.4; known = keeps node s.1 s.0 s.3 here.known; answered = counts here.answered });
   }
 
   -- ---- never started
@@ -189,7 +174,7 @@ module _ {D : Type 0} (medium : Medium D) (names : List (List ℕ)) where
       count = 0;
       holds = record {
         sure = refl;
-        each = both_stand medium (placed false first backup) 0 [] (each_empty first empty) (each_empty backup also);
+        each = both_so medium (placed false first backup) (λ i at. (each_empty first empty i at, each_empty backup also));
       };
     };
     known = record { durable = tt; doubt = tt; longer = tt };
@@ -200,17 +185,6 @@ module _ {D : Type 0} (medium : Medium D) (names : List (List ℕ)) where
   pub up_is : (server : ServerNode D) (node : Node (List Commit)) (n : ℕ) → ServerStands medium names server node n
       → node.alive ≡ is_up server
   up_is server node n here = on_is (lists medium) (on_both medium) (kept_text names) server.post node here.post
-
-  -- ---- a restart
-
-  -- of one that is down
-  pub restarts : (old new : ServerNode D) (n : ℕ) (x y : List ℕ) (on : Bool) → is_up old ≡ false
-      → StepsTo (Stands n) (Stands 0) (ComesBackAs (restart_words server_name) server_name (kept_text names)) old new x y on
-      → StepsTo (Stands n) (Stands (answered_since (is_up old) n)) (Restarts server_name (kept_text names)) old new x y tt
-  restarts old new n x y on down step =
-      rw down
-      (bind {a = false} (asks (λ node here. sym (up_is old node n here ∙ down)))
-      (bind {a = on} step (nothing)))
 
   lasts_in : (post : Post (ServerKeeper D) (Disks D)) (node : Node (List Commit)) → Posted post node
       → Lasts (lists medium) (on_both medium) post node
@@ -227,24 +201,16 @@ module _ {D : Type 0} (medium : Medium D) (names : List (List ℕ)) where
 
   -- ---- a request
 
-  -- a server that is alive takes requests
-  pub is_live : (post : Post (ServerKeeper D) (Disks D)) (node : Node (List Commit)) → Posted post node → is_on post ≡ true
-      → IsLive medium (record { post = post })
-  is_live (Up keeper) node here up =
-      record { given_up = keeper.given_up; it = keeper.server; up = refl; synced = here.stands.synced }
-  is_live post node here up = absurd cc
-
-  module _ {was now : Server D} {given_up : Option D} {asked reply : List ℕ} {node : Node (List Commit)} {n : ℕ}
-      (it : Handles medium asked reply was now) (here : ServerStands medium names (live given_up was) node n) where
+  module _ {was now : ServerKeeper D} {asked reply : List ℕ} {node : Node (List Commit)} {n : ℕ}
+      (it : Handles medium asked reply was now) (here : ServerStands medium names (live was) node n) where
     -- once more, with what it has now
-    stands_on : (change : List Commit → List Commit) (count : ℕ)
-        → KeepsList medium (record { server = now; given_up = given_up }) count (change node.durable)
-        → NodeIsKnown names (changed change node) → ServerStands medium names (live given_up now) (changed change node) (n + 1)
+    stands_on : (change : List Commit → List Commit) (count : ℕ) → KeepsList medium now count (change node.durable)
+        → NodeIsKnown names (changed change node) → ServerStands medium names (live now) (changed change node) (n + 1)
     stands_on change count keeps known = record {
       post = record {
         alive = here.post.alive;
         sure = here.post.sure;
-        counts = kept_counts medium was now given_up it.arms it.faults ∙ here.post.counts;
+        counts = kept_counts medium it.arms it.faults ∙ here.post.counts;
         count = count;
         stands = keeps;
       };
@@ -254,16 +220,16 @@ module _ {D : Type 0} (medium : Medium D) (names : List (List ℕ)) where
     }
 
     -- as many records as before it
-    counted_before : (servers.encoded_on medium was).count ≡ here.post.count
-    counted_before = store_counted medium (servers.store_of was) here.post.stands.synced ∙ here.post.stands.many
+    counted_before : (servers.encoded_on medium was.server).count ≡ here.post.count
+    counted_before = store_counted medium (servers.store_of was.server) here.post.stands.synced ∙ here.post.stands.many
 
     -- after it as many as it encodes
-    counted_now : servers.count_of now ≡ (servers.encoded_on medium now).count
-    counted_now = sym (store_counted medium (servers.store_of now) it.synced)
+    counted_now : servers.count_of now.server ≡ (servers.encoded_on medium now.server).count
+    counted_now = sym (store_counted medium (servers.store_of now.server) it.synced)
 
     -- one that encodes what it did, and has the state that it had, stands for what it stood for
-    pub stands_still : Both medium (λ old new. new ≡ old) was now → servers.state_of now ≡ servers.state_of was
-        → ServerStands medium names (live given_up now) node (n + 1)
+    pub stands_still : Both medium (λ old new. new ≡ old) was now → servers.state_of now.server ≡ servers.state_of was.server
+        → ServerStands medium names (live now) node (n + 1)
     stands_still both made =
         stands_on (λ commits. commits) here.post.count (record {
           synced = it.synced;
@@ -274,26 +240,20 @@ module _ {D : Type 0} (medium : Medium D) (names : List (List ℕ)) where
         })
         here.known
 
-    -- what has one record more, of this commit
-    longer_list : {commit : Commit} {label : Label} {access : Access} {lines : List (List ℕ)} (encoded after : Encoded)
-        → AreOf commit (tree_after node.durable) label access lines → EncodesList encoded node.durable
-        → IsGrown encoded (servers.state_of was) (record { label = label; access = access; lines = lines }) after
-        → EncodesList after (add_commit commit node.durable)
-    longer_list encoded after are has grown =
-        rw grown.is
-        (record_is node.durable are grown.mid grown.body grown.next.spells
-        (renewed_list encoded grown.mid node.durable (rw here.post.stands.has_state at grown.renews) has))
-
-    -- one that has it, and the state after it, stands for a list with this commit
+    -- one that encodes one record more, and has the state after it, stands for a list with this commit
     pub stands_longer : {commit : Commit} {label : Label} {access : Access} {lines : List (List ℕ)}
         → AreOf commit (tree_after node.durable) label access lines
-        → Both medium (λ old new. IsGrown old (servers.state_of was) (record { label = label; access = access; lines = lines }) new) was now
-        → servers.state_of now ≡ after_commit (servers.state_of was) label access → IsKnown names commit
-        → ServerStands medium names (live given_up now) (changed (add_commit commit) node) (n + 1)
+        → Both medium (λ old new. IsGrown old (servers.state_of was.server) (record { label = label; access = access; lines = lines }) new)
+        was now
+        → servers.state_of now.server ≡ after_commit (servers.state_of was.server) label access → IsKnown names commit
+        → ServerStands medium names (live now) (changed (add_commit commit) node) (n + 1)
     stands_longer {commit} {label} {access} {lines} are both made known =
         stands_on (add_commit commit) (next here.post.count) (record {
           synced = it.synced;
-          lists = each_on both here.post.stands.lists (λ old new list more. longer_list old new are list more);
+          lists = each_on both here.post.stands.lists (λ old new list grown.
+              rw grown.is
+              (record_is node.durable are grown.mid grown.body grown.next.spells
+              (renewed_list old grown.mid node.durable (rw here.post.stands.has_state at grown.renews) list)));
           many = counted_now ∙ grown_count _ _ _ _ both.first ∙ ap next counted_before;
           has_state =
               made ∙ ap (λ (s : State). after_commit s label access) here.post.stands.has_state ∙ sym (state_is node.durable are);
@@ -326,18 +286,6 @@ recorded {before} {after} {was} {now} {label} {access} {lines} it =
         inr (record { is_new = is_new_from before.labels label.client label.tid none; holds = holds; fit = fit }, made, rw replied at it)
     by None reply none (Holds, holds, inr (misfit, replied, made)) it = inl (made, rw replied at it)
     by None reply none (Differs place answer, judged, (replied, made)) it = inl (made, rw replied at it)
-
-pub lives : {D : Type 0} (By : List ℕ → Server D → Server D → Type 0) {old : ServerNode D} {was now : ServerKeeper D}
-    {given asked : List ℕ} → old.post ≡ Up was → given ≡ asked → now.given_up ≡ was.given_up → By given was.server now.server
-    → Lives (By asked) old (record { post = Up now })
-lives By {was = was} {now = now} is same given_up by = record {
-  given_up = was.given_up;
-  was = was.server;
-  now = now.server;
-  old_is = ap (λ (post : Post _ _). record { post = post }) is;
-  new_is = λ i. record { post = Up (record { server = now.server; given_up = given_up i }) };
-  by = subst (λ (bytes : List ℕ). By bytes was.server now.server) same by;
-}
 
 -- one that was never started stands for some node
 pub is_standing : {D : Type 0} (medium : Medium D) (server : ServerNode D) → IsUnopened medium server
@@ -376,7 +324,7 @@ module _ {D : Type 0} (medium : Medium D) (names : List (List ℕ)) (name : List
     counted = it.counted;
     lines =
         it.lines
-        ∙ sym (same_kept names name node.durable it.after (subst (AreKnownIfAny names) it.is known.doubt));
+        ∙ sym (same_kept names name node.durable it.after (subst (If (AreKnown names)) it.is known.doubt));
   }
 
   posted_more : (post : Post (ServerKeeper D) (Disks D)) (node : Node (List Commit)) → NodeIsKnown names node
@@ -399,7 +347,7 @@ module _ {D : Type 0} (medium : Medium D) (names : List (List ℕ)) (name : List
     post = posted_more server.post node here.known here.post;
     known = record {
       durable = known_more names name node.durable here.known.durable;
-      doubt = known_more_if_any names name node.doubt here.known.doubt;
+      doubt = if_so _ _ (known_more names name) node.doubt here.known.doubt;
       longer = here.known.longer;
     };
     answered = here.answered;

@@ -15,7 +15,6 @@ use Rattle.iot_node.specs.Keeping.{Comes, Fails}
 use Rattle.iot_server.specs.Servers as servers
 use Rattle.iot_slots.specs.declared.slots.Slots.{Slots}
 use Rattle.iot_store.specs.Standing.{EachBrings, EachFollows}
-use Rattle.iot_store.proofs.PartsLaws.{if_map}
 use Rattle.iot_server_node.specs.Disks.{Image, MayLeave, faults_in, on_both, other_in, reads_may_leave}
 use Rattle.iot_server_node.specs.Keepers.{disks_in}
 use Rattle.iot_server_node.specs.Prelude.{Commit, Disks, If, MayFollow, Medium, Server, ServerKeeper, StandFor}
@@ -23,25 +22,51 @@ use Rattle.iot_server_node.specs.Prelude.{StandWith, State, decoded, disk_on, he
 use Rattle.iot_server_node.specs.Records.{AreImages, AreTurning, LacksCommit}
 use Rattle.iot_server_node.proofs.CountsLaws.{alone_start, pair_start}
 use Rattle.iot_server_node.proofs.KeepersLaws.{keeps_images, keeps_of}
-use Rattle.iot_server_node.proofs.PairsLaws.{both_stand, both_turn}
+use Rattle.iot_server_node.proofs.PairsLaws.{both_so, so_as}
 use Rattle.iot_judging.proofs.ImagesLaws.{Starts, hold_too, brought_there, kept_there, lacks_still}
 
-module _ {D : Type 0} (medium : Medium D) (disk : D) (given_up : Option D) (only : Only (medium.reads disk) (medium.may_leave disk)) where
+-- the second disk that is there
+pub is_there : {X : Type 0} (o : Option X) → IsThere o → (x : X) × (o ≡ Some x)
+is_there (Some x) there = (x, refl)
+is_there None there = absurd there
+
+-- disks that have one image together
+module _ {D : Type 0} (medium : Medium D) (is_image : (disk : D) → medium.may_leave disk (medium.reads disk)) (disks : Disks D)
+    (only : OnlyImage ((on_both medium).reads disks) (MayLeave medium disks)) where
+  open disks use {disk, given_up}
+
+  -- so has each
+  pub only_first : Only (medium.reads disks.disk) (medium.may_leave disks.disk)
+  only_first = record {
+    is = λ i at.
+        let both = reads_may_leave medium is_image disks in
+        ap (λ (image : Image). image.disk)
+        (only.is (record { disk = i; backup = option_map medium.reads disks.backup }) (record { disk = at; backup = both.backup }));
+  }
+
+  pub only_second : (backup : D) → disks.backup ≡ Some backup → Only (medium.reads backup) (medium.may_leave backup)
+  only_second backup is = record {
+    is = λ j at.
+        same_Some j (medium.reads backup)
+        (ap (λ (image : Image). image.backup)
+        (only.is (record { disk = medium.reads disks.disk; backup = Some j })
+        (record { disk = is_image disks.disk; backup = rw is at }))
+        ∙ ap (option_map medium.reads) is);
+  }
+
   -- what is known of a start of the first disk
   abbrev Begins : (left : D) → Type 0
   Begins left = Starts (medium.reads disk) (medium.may_leave disk) (medium.may_leave left)
 
   -- ---- a disk that is alone
 
-  pub alone_fails : {was : Option D} → was ≡ None → (left : D) (fault : StartFault) → TakesBytes fault → Begins left
+  pub alone_fails : disks.backup ≡ None → (left : D) (fault : StartFault) → TakesBytes fault → Begins left
       → HasCause rules fault (medium.reads disk) (medium.faults disk) (medium.faults left) → medium.arms left ≡ medium.arms disk
-      → Fails (lists medium) (on_both medium) (record { disk = disk; backup = was; given_up = given_up })
-      (record { disk = left; backup = None; given_up = given_up }) fault
+      → Fails (lists medium) (on_both medium) disks (record { disk = left; backup = None; given_up = given_up }) fault
   alone_fails none left fault takes it cause arms = record {
     images = record {
-      stand = λ n commits is. both_stand medium _ n commits (hold_too only it n commits is.disk) tt;
-      turn = λ n commits longer is.
-          both_turn medium _ n commits longer (λ i at. (hold_too only it (next n) longer is.disk i at, tt));
+      stand = λ n commits is. both_so medium _ (λ i at. (hold_too only_first it n commits is.disk i at, tt));
+      turn = λ n commits longer is. both_so medium _ (λ i at. (hold_too only_first it (next n) longer is.disk i at, tt));
     };
     counts = rw none (alone_start medium fault (medium.reads disk) disk left given_up takes cause arms);
   }
@@ -57,19 +82,18 @@ module _ {D : Type 0} (medium : Medium D) (disk : D) (given_up : Option D) (only
       pub follows : MayFollow (medium.reads disk) (medium.reads backup)
           → EachFollows (medium.may_leave left) (medium.may_leave behind)
 
-    pub pair_fails : {was : Option D} → was ≡ Some backup → (left behind : D) (fault : StartFault) → TakesBytes fault
+    pub pair_fails : disks.backup ≡ Some backup → (left behind : D) (fault : StartFault) → TakesBytes fault
         → Begins left → Brings left behind
         → HasPairCause rules (OfDisk fault) (medium.reads disk) (medium.reads backup) (medium.faults disk) (medium.faults left)
         (medium.faults backup) (medium.faults behind)
         → medium.arms left ≡ medium.arms disk
-        → Fails (lists medium) (on_both medium) (record { disk = disk; backup = was; given_up = given_up })
-        (record { disk = left; backup = Some behind; given_up = given_up }) fault
+        → Fails (lists medium) (on_both medium) disks (record { disk = left; backup = Some behind; given_up = given_up }) fault
     pair_fails some left behind fault takes first it cause arms = record {
       images = record {
         stand = λ n commits is.
-            both_stand medium _ n commits (hold_too only first n commits is.disk) (also n commits is.disk (rw some at is.backup));
-        turn = λ n commits longer is. both_turn medium _ n commits longer (λ i at. (
-          hold_too only first (next n) longer is.disk i at,
+            both_so medium _ (λ i at. (hold_too only_first first n commits is.disk i at, also n commits is.disk (rw some at is.backup)));
+        turn = λ n commits longer is. both_so medium _ (λ i at. (
+          hold_too only_first first (next n) longer is.disk i at,
           λ j there. elim (rw some at is.backup) [
             | inl lacks ↦ elim ((it.brings (state_of longer) (state_of commits) is.disk.stands lacks.image.stands).each j there) [
               | inl stands ↦ inl (lacks_still lacks (read i at lacks)
@@ -96,11 +120,11 @@ module _ {D : Type 0} (medium : Medium D) (disk : D) (given_up : Option D) (only
         read : {n : ℕ} {commits longer : List Commit} (i : List ℕ) → medium.may_leave left i
             → LacksCommit (medium.reads disk) (medium.reads backup) n commits longer → i ≡ medium.reads disk
         read i at lacks =
-            only.is i ((first.same (λ none. not_both (decoded header (medium.reads disk)) _ none lacks.lacks.is)).was i at)
+            only_first.is i ((first.same (λ none. not_both (decoded header (medium.reads disk)) _ none lacks.lacks.is)).was i at)
 
   -- ---- a server that was started
 
-  module _ (is_image : (disk : D) → medium.may_leave disk (medium.reads disk)) (it : Server D) (synced : servers.IsSynced medium it)
+  module _ (it : Server D) (synced : servers.IsSynced medium it)
       (here : StandWith rules (medium.reads disk) (servers.count_of it) (servers.state_of it))
       (own_state : (state : State) → StandFor (medium.reads disk) state → servers.state_of it ≡ state) (first : Begins (servers.disk_of it))
       (arms : medium.arms (servers.disk_of it) ≡ medium.arms disk) where
@@ -113,47 +137,43 @@ module _ {D : Type 0} (medium : Medium D) (disk : D) (given_up : Option D) (only
 
     keeps : (n : ℕ) (commits : List Commit) → IsImage (medium.reads disk) n commits → Second n commits → KeepsList medium made n commits
     keeps n commits is second =
-        keeps_of medium it given_up n commits synced (sym here.counted ∙ is.many) (own_state (state_of commits) is.stands)
-        (record { disk = hold_too only first n commits is _ (is_image (servers.disk_of it)); backup = second })
+        keeps_of medium made n commits synced (sym here.counted ∙ is.many) (own_state (state_of commits) is.stands)
+        (record { disk = hold_too only_first first n commits is _ (is_image (servers.disk_of it)); backup = second })
 
-    comes : (backup : Option D)
-        → ((n : ℕ) (commits : List Commit)
-        → AreImages (record { disk = medium.reads disk; backup = option_map medium.reads backup }) n commits
-        → Second n commits)
+    comes : ((n : ℕ) (commits : List Commit) → AreImages ((on_both medium).reads disks) n commits → Second n commits)
         → ((n : ℕ) (commits longer : List Commit)
-        → AreTurning (record { disk = medium.reads disk; backup = option_map medium.reads backup }) n commits longer
-        → Second (next n) longer)
+        → AreTurning ((on_both medium).reads disks) n commits longer → Second (next n) longer)
         → medium.faults (servers.disk_of it) + faults_in medium (other_in (disks_in made).backup given_up)
-        ≡ medium.faults disk + faults_in medium (other_in backup given_up)
-        → Comes (lists medium) (on_both medium) (record { disk = disk; backup = backup; given_up = given_up }) made
-    comes backup second longer faults = record {
+        ≡ medium.faults disk + faults_in medium (other_in disks.backup given_up)
+        → Comes (lists medium) (on_both medium) disks made
+    comes second longer faults = record {
       from = λ n commits is. keeps n commits is.disk (second n commits is);
       turned = λ n commits after is. keeps (next n) after is.disk (longer n commits after is);
       images = record {
         stand = λ n commits is. keeps_images (keeps n commits is.disk (second n commits is));
         turn = λ n commits after is. record {
           each = λ image left.
-              let has = (keeps_images (keeps (next n) after is.disk (longer n commits after is))).each image left in
-              record { disk = has.disk; backup = if_map (λ j. IsImage j (next n) after) _ (λ j it. inr it) image.backup has.backup };
+              so_as ((keeps_images (keeps (next n) after is.disk (longer n commits after is))).each image left) (λ i has. has)
+              (λ i j has. inr has);
         };
       };
       counts = λ i. record { faults = faults i; arms = arms i };
     }
 
-    pub alone_comes : {was : Option D} → was ≡ None → servers.IsAlone it → medium.faults (servers.disk_of it) ≡ medium.faults disk
-        → Comes (lists medium) (on_both medium) (record { disk = disk; backup = was; given_up = given_up }) made
+    pub alone_comes : disks.backup ≡ None → servers.IsAlone it → medium.faults (servers.disk_of it) ≡ medium.faults disk
+        → Comes (lists medium) (on_both medium) disks made
     alone_comes none alone faults =
-        comes _ (λ n commits is. rw alone tt) (λ n commits longer is. rw alone tt)
+        comes (λ n commits is. rw alone tt) (λ n commits longer is. rw alone tt)
         (rw (alone, none) (ap (λ (k : ℕ). k + faults_in medium given_up) faults))
 
-    pub pair_comes : {was : Option D} {backup : D} → was ≡ Some backup → (s : Slots D) → servers.second_of it ≡ Some s
+    pub pair_comes : {backup : D} → disks.backup ≡ Some backup → (s : Slots D) → servers.second_of it ≡ Some s
         → ((state was : State) → StandFor (medium.reads disk) state → StandFor (medium.reads backup) was
         → EachStands rules (images_of medium s) (records_in (medium.reads disk)) state)
         → EachIsBroughtUp rules (images_of medium s) (medium.reads disk) (medium.reads backup)
         → medium.faults (servers.disk_of it) ≡ medium.faults disk → medium.faults (disk_on s) ≡ medium.faults backup
-        → Comes (lists medium) (on_both medium) (record { disk = disk; backup = was; given_up = given_up }) made
+        → Comes (lists medium) (on_both medium) disks made
     pair_comes {backup = backup} some s there stand encodes faults also =
-        comes _ (λ n commits are. rw there (has n commits are.disk (rw some at are.backup)))
+        comes (λ n commits are. rw there (has n commits are.disk (rw some at are.backup)))
         (λ n commits longer are. rw there (elim (rw some at are.backup) [
           | inl lacks ↦
               let stands = (stand (state_of longer) (state_of commits) are.disk.stands lacks.image.stands).each _ (is_image (disk_on s)) in
@@ -168,31 +188,3 @@ module _ {D : Type 0} (medium : Medium D) (disk : D) (given_up : Option D) (only
         has n commits one other =
             let stands = (stand (state_of commits) (state_of commits) one.stands other.stands).each _ (is_image (disk_on s)) in
             kept_there encodes _ (is_image (disk_on s)) other stands.stands (stands.counted ∙ one.many)
-
--- the second disk that is there
-pub is_there : {X : Type 0} (o : Option X) → IsThere o → (x : X) × (o ≡ Some x)
-is_there (Some x) there = (x, refl)
-is_there None there = absurd there
-
--- ---- what a keeper is started from
-
--- both have one image if the two together have one
-module _ {D : Type 0} (medium : Medium D) (is_image : (disk : D) → medium.may_leave disk (medium.reads disk)) (disks : Disks D)
-    (only : OnlyImage ((on_both medium).reads disks) (MayLeave medium disks)) where
-  pub only_first : Only (medium.reads disks.disk) (medium.may_leave disks.disk)
-  only_first = record {
-    is = λ i at.
-        let both = reads_may_leave medium is_image disks in
-        ap (λ (image : Image). image.disk)
-        (only.is (record { disk = i; backup = option_map medium.reads disks.backup }) (record { disk = at; backup = both.backup }));
-  }
-
-  pub only_second : (backup : D) → disks.backup ≡ Some backup → Only (medium.reads backup) (medium.may_leave backup)
-  only_second backup is = record {
-    is = λ j at.
-        same_Some j (medium.reads backup)
-        (ap (λ (image : Image). image.backup)
-        (only.is (record { disk = medium.reads disks.disk; backup = Some j })
-        (record { disk = is_image disks.disk; backup = rw is at }))
-        ∙ ap (option_map medium.reads) is);
-  }

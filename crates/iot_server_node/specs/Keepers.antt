@@ -1,6 +1,6 @@
 -- For which list of commits a server stands, and how it handles a request.
 use Rattle.std.specs.Prelude.{◌≡◌, ℕ, ◌+◌, ◌%◌, ◌^◌, List, length, option_map}
-use Rattle.iot_server_node.specs.Prelude.{Medium, JournalFault, IsHandled, Server, Commit, IsMessage, IsRequest, Changes, Encoded, If}
+use Rattle.iot_server_node.specs.Prelude.{Medium, JournalFault, IsHandled, Commit, IsMessage, IsRequest, Changes, Encoded, If}
 use Rattle.iot_server_node.specs.Prelude.{NoneRose, OneRose}
 use Rattle.iot_server_node.specs.Prelude.{request_spelling, Keeping, ServerKeeper, Disks, EachStarts, images_of, disk_on, state_on}
 use Rattle.iot_disk.specs.declared.faults.JournalFault.TheVariants as append
@@ -22,20 +22,21 @@ disks_in keeper = record {
   given_up = keeper.given_up;
 }
 
--- of what each disk of a server encodes
-pub record Each {D : Type 0} (medium : Medium D) (P : Encoded → Type 0) (it : Server D) : Type 0 where
-  pub first : P (servers.encoded_on medium it)
-  pub second : If (λ s. P (state_on medium s)) (servers.second_of it)
+-- of what each disk of its server encodes
+pub record Each {D : Type 0} (medium : Medium D) (P : Encoded → Type 0) (it : ServerKeeper D) : Type 0 where
+  pub first : P (servers.encoded_on medium it.server)
+  pub second : If (λ s. P (state_on medium s)) (servers.second_of it.server)
 
 -- of what each encoded before, and what it encodes now
-pub record Both {D : Type 0} (medium : Medium D) (R : (was now : Encoded) → Type 0) (old new : Server D) : Type 0 where
-  pub first : R (servers.encoded_on medium old) (servers.encoded_on medium new)
-  pub second : Changes (λ was now. R (state_on medium was) (state_on medium now)) (servers.second_of old) (servers.second_of new)
+pub record Both {D : Type 0} (medium : Medium D) (R : (was now : Encoded) → Type 0) (old new : ServerKeeper D) : Type 0 where
+  pub first : R (servers.encoded_on medium old.server) (servers.encoded_on medium new.server)
+  pub second : Changes (λ was now. R (state_on medium was) (state_on medium now)) (servers.second_of old.server)
+      (servers.second_of new.server)
 
 -- a keeper's store has the state of this list, which has so many commits, its disks encode the list, and nothing is under way
 pub record KeepsList {D : Type 0} (medium : Medium D) (keeper : ServerKeeper D) (count : ℕ) (commits : List Commit) : Type 0 where
   pub synced : servers.IsSynced medium keeper.server
-  pub lists : Each medium (λ encoded. EncodesList encoded commits) keeper.server
+  pub lists : Each medium (λ encoded. EncodesList encoded commits) keeper
   pub many : servers.count_of keeper.server ≡ count
   pub has_state : servers.state_of keeper.server ≡ state_of commits
   pub counted : count ≡ length commits
@@ -46,30 +47,38 @@ lists medium = record { stands = KeepsList medium; image = AreImages; turning = 
 
 -- ---- requests
 
--- neither disk was armed
-pub record KeepsArms {D : Type 0} (medium : Medium D) (was now : Server D) : Type 0 where
-  pub first : medium.arms (servers.disk_of now) ≡ medium.arms (servers.disk_of was)
-  pub second : Changes (λ old new. medium.arms (disk_on new) ≡ medium.arms (disk_on old)) (servers.second_of was) (servers.second_of now)
+-- neither disk of its server was armed, and the one that was given up stays so
+pub record KeepsArms {D : Type 0} (medium : Medium D) (was now : ServerKeeper D) : Type 0 where
+  pub first : medium.arms (servers.disk_of now.server) ≡ medium.arms (servers.disk_of was.server)
+  pub second : Changes (λ old new. medium.arms (disk_on new) ≡ medium.arms (disk_on old)) (servers.second_of was.server)
+      (servers.second_of now.server)
+  pub given_up : now.given_up ≡ was.given_up
 
--- a server has handled a request, and replied; each disk has what that makes of it
-pub record Handles {D : Type 0} (medium : Medium D) (asked reply : List ℕ) (was now : Server D) : Type 0 where
-  pub handled : Both medium (λ old new. IsHandled (servers.state_of was) old asked reply (servers.state_of now) new) was now
-  pub synced : servers.IsSynced medium now
+-- its server has handled a request, and replied; each disk has what that makes of it
+pub record Handles {D : Type 0} (medium : Medium D) (asked reply : List ℕ) (was now : ServerKeeper D) : Type 0 where
+  pub handled : Both medium (λ old new. IsHandled (servers.state_of was.server) old asked reply (servers.state_of now.server) new) was now
+  pub synced : servers.IsSynced medium now.server
   pub arms : KeepsArms medium was now
-  pub faults : NoneRose medium (servers.first_of was) (servers.first_of now) (servers.second_of was) (servers.second_of now)
-  pub requests : (servers.traffic_of now).requests ≡ ((servers.traffic_of was).requests + 1) % 2 ^ 64
+  pub faults : NoneRose medium (servers.first_of was.server) (servers.first_of now.server) (servers.second_of was.server)
+      (servers.second_of now.server)
+  pub requests : (traffic_in now).requests ≡ ((traffic_in was).requests + 1) % 2 ^ 64
 
--- A server gave no reply. If there was no memory, each image still has its list, or a commit was cut off. If it stopped, a commit was cut
--- off, and one disk's count of faults rose.
-abbrev pub RefusesFor : {D : Type 0} → Medium D → (asked : List ℕ) → JournalFault → (was now : Server D) → Type 0
+-- a commit was asked for, and was cut off
+abbrev pub Cuts : {D : Type 0} → Medium D → (asked : List ℕ) → (was now : ServerKeeper D) → Type 0
+Cuts medium asked was now =
+    CutsOff medium (IsMessage IsRequest request_spelling asked) (servers.store_of was.server) (servers.store_of now.server)
+
+-- It gave no reply. If there was no memory, each image still has its list, or a commit was cut off. If it stopped, a commit was cut off,
+-- and one disk's count of faults rose.
+abbrev pub RefusesFor : {D : Type 0} → Medium D → (asked : List ℕ) → JournalFault → (was now : ServerKeeper D) → Type 0
 RefusesFor medium asked append.NoMemory was now =
-    LacksMemory medium (IsMessage IsRequest request_spelling asked) (servers.store_of was) (servers.store_of now)
+    LacksMemory medium (IsMessage IsRequest request_spelling asked) (servers.store_of was.server) (servers.store_of now.server)
 RefusesFor medium asked append.Stopped was now =
-    CutsOff medium (IsMessage IsRequest request_spelling asked) (servers.store_of was) (servers.store_of now)
-    × OneRose medium (servers.first_of was) (servers.first_of now) (servers.second_of was) (servers.second_of now)
+    Cuts medium asked was now × OneRose medium (servers.first_of was.server) (servers.first_of now.server) (servers.second_of was.server)
+    (servers.second_of now.server)
 
 -- however it is, a start from any two images has what it needs
-pub record Refuses {D : Type 0} (medium : Medium D) (asked : List ℕ) (fault : JournalFault) (was now : Server D) : Type 0 where
+pub record Refuses {D : Type 0} (medium : Medium D) (asked : List ℕ) (fault : JournalFault) (was now : ServerKeeper D) : Type 0 where
   pub why : RefusesFor medium asked fault was now
   pub arms : KeepsArms medium was now
-  pub restarts : If (λ s. EachStarts (medium.may_leave (servers.disk_of now)) (images_of medium s)) (servers.second_of now)
+  pub restarts : If (λ s. EachStarts (medium.may_leave (servers.disk_of now.server)) (images_of medium s)) (servers.second_of now.server)

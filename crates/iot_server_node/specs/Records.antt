@@ -1,11 +1,8 @@
 -- What the server's disks keep of the machine's list: a checkpoint of its first commits, and a record for each of the others.
-use Rattle.std.specs.Prelude.{◌≡◌, ◌⊎◌, ℕ, List, [], ◌∷◌, ◌++◌, length, Option, None, Some}
-use Rattle.iot_server_node.specs.Prelude.{Storing, Nodes, run_entry, State, record_spelling, Commit, tree_after, If, next, LacksLast}
-use Rattle.iot_access.specs.Access.{access_of, lines_of}
-use Rattle.iot_server_node.specs.Prelude.{StandFor, rules, Leads, header, records_in, Decoded, Encodes, NotStarted}
-use Rattle.iot_server_node.specs.Prelude.{Encoded, decoded, MayFollow}
+use Rattle.std.specs.Prelude.{◌⊎◌, ℕ, List, Option, None, Some}
+use Rattle.iot_server_node.specs.Prelude.{Storing, State, Commit, If, next}
+use Rattle.iot_server_node.specs.Prelude.{StandFor, rules, Leads}
 use Rattle.iot_slots.specs.declared.version.Version.TheVariants.{Two}
-use Rattle.iot_store.specs.Bodies.{IsBody}
 use Rattle.iot_server_node.specs.Disks.{Image}
 pub use Rattle.iot_judging.specs.Lists.{stamps_from, state_of}
 pub use Rattle.iot_judging.specs.Records.{EncodesList, HasList, IsImage, LacksCommit, records_from}
@@ -13,15 +10,20 @@ pub use Rattle.iot_machine.specs.Recorded.{label_of}
 
 -- ---- of both disks
 
+-- that of the first is so, and that of the second, if there is one, is so beside it
+pub record AreSo (P : List ℕ → Type 0) (Q : (one other : List ℕ) → Type 0) (image : Image) : Type 0 where
+  pub disk : P image.disk
+  pub backup : If (Q image.disk) image.backup
+
 -- an image of each stands for the list
-pub record AreImages (image : Image) (count : ℕ) (commits : List Commit) : Type 0 where
-  pub disk : IsImage image.disk count commits
-  pub backup : If (λ bytes. IsImage bytes count commits) image.backup
+abbrev pub AreImages : Image → (count : ℕ) → (commits : List Commit) → Type 0
+AreImages image count commits = AreSo (λ bytes. IsImage bytes count commits) (λ one bytes. IsImage bytes count commits) image
 
 -- in the midst of a commit the first one has it, and the second has it or lacks it
-pub record AreTurning (image : Image) (count : ℕ) (commits longer : List Commit) : Type 0 where
-  pub disk : IsImage image.disk (next count) longer
-  pub backup : If (λ bytes. LacksCommit image.disk bytes count commits longer ⊎ IsImage bytes (next count) longer) image.backup
+abbrev pub AreTurning : Image → (count : ℕ) → (commits longer : List Commit) → Type 0
+AreTurning image count commits longer =
+    AreSo (λ bytes. IsImage bytes (next count) longer)
+    (λ one bytes. LacksCommit one bytes count commits longer ⊎ IsImage bytes (next count) longer) image
 
 -- ---- from which states they go on, whatever became of a call
 
@@ -32,14 +34,9 @@ pub record GoesOnFrom (from : State) (bytes : List ℕ) : Type 0 where
   pub records : List (List ℕ)
   pub leads : Leads (rules Two) records from state
 
--- those of both are so
-pub record GoOnFrom (from : State) (image : Image) : Type 0 where
-  pub disk : GoesOnFrom from image.disk
-  pub backup : If (GoesOnFrom from) image.backup
-
--- so is each image of the disks
+-- those of both are so in each image of the disks
 pub record EachGoesOn {P : Type 0} (medium : Storing P Image) (from : State) (disks : P) : Type 0 where
-  pub each : (image : Image) → medium.may_leave disks image → GoOnFrom from image
+  pub each : (image : Image) → medium.may_leave disks image → AreSo (GoesOnFrom from) (λ one. GoesOnFrom from) image
 
 -- there are disks, and they are so
 abbrev pub DiskGoesOn : {P : Type 0} → Storing P Image → State → Option P → Type 0

@@ -1,17 +1,17 @@
 -- The server as a node, alive or down: for which node of the machine it stands, and what it does.
 use Rattle.std.specs.Prelude.{◌≡◌, ℕ, ◌+◌, ◌<◌, ◌%◌, ◌^◌, Bool, true, false, List, [], ◌∷◌, ◌++◌, length, map, Option, Some, None, IsSome}
-use Rattle.std.specs.Prelude.{slice_index_or, option_map, is_some, Err}
+use Rattle.std.specs.Prelude.{slice_index_or, option_map, is_some}
 use Rattle.std.specs.List.{AllByRecursion}
-use Rattle.iot_access.specs.Access.{access_of, after_updates, lines_of}
+use Rattle.iot_access.specs.Access.{access_of, lines_of}
 use Rattle.iot_tree.specs.declared.access.Access.{Access}
-use Rattle.iot_server_node.specs.Prelude.{Nodes, IsTree, Act, Label, reads_of, Medium, JournalFault, run_entry, Call, Commit, tree_after}
-use Rattle.iot_server_node.specs.Prelude.{Node, server_name, kept_text, Appends, transaction_name, acts_output, IsEmpty, Appended, Doubts}
-use Rattle.iot_server_node.specs.Prelude.{PostStands, UpStands, StepsFrom, is_on, StepsTo, Doubt, Post, Up, Down, Server}
+use Rattle.iot_server_node.specs.Prelude.{Nodes, IsTree, Act, Label, reads_of, Medium, run_entry, Call, Commit, tree_after}
+use Rattle.iot_server_node.specs.Prelude.{Node, server_name, kept_text, transaction_name, acts_output, IsEmpty}
+use Rattle.iot_server_node.specs.Prelude.{PostStands, is_on, StepsTo, Doubt, Post, Up, Down, Server}
 use Rattle.iot_server_node.specs.Prelude.{IsMessage, IsRequest, request_spelling, ServerKeeper, Handed, Message, Served, ServerNode, Leads}
 use Rattle.iot_server_node.specs.Prelude.{Arms, ComesBackAs, Disks, KeepsDisk, armed, armed_with, arming_as, promote_words}
 use Rattle.iot_disk.specs.declared.disk.Pick.{Pick}
 use Rattle.iot_slots.specs.declared.version.Version.TheVariants.{Two}
-use Rattle.iot_server_node.specs.Prelude.{rules}
+use Rattle.iot_server_node.specs.Prelude.{If, State, live_of, opening, rules}
 use Rattle.iot_judging.specs.Entries.{IsSpelledEntry}
 use Rattle.iot_machine.specs.Serving.{Submission}
 use Rattle.iot_node.specs.Posts as posts
@@ -19,9 +19,8 @@ use Rattle.iot_node.specs.declared.lines.Transaction.{Transaction}
 use Rattle.iot_server.specs.Servers as servers
 use Rattle.iot_wire.specs.declared.requests.Request.TheVariants as requests
 use Rattle.iot_stamp.specs.Stamps.{Stamps}
-use Rattle.iot_store.specs.Stamps.{opening_stamps}
 use Rattle.iot_server_node.specs.Disks.{IsPlaced, on_both, placed, sides, sides_of, turned}
-use Rattle.iot_server_node.specs.Keepers.{disks_in, lists, traffic_in, Handles, Refuses}
+use Rattle.iot_server_node.specs.Keepers.{disks_in, lists, traffic_in}
 use Rattle.iot_server_node.specs.Messages.{said_of}
 use Rattle.iot_server_node.specs.Records.{DiskGoesOn, label_of, state_of}
 
@@ -76,28 +75,21 @@ pub record HasPlaces {D : Type 0} (server : ServerNode D) : Type 0 where
   pub placed : IsPlaced disks
 
 -- the live server itself
-abbrev pub lent_in : {D : Type 0} → Post (ServerKeeper D) (Disks D) → Option (Server D)
-lent_in (Up keeper) = Some keeper.server
-lent_in post = None
-
 abbrev pub lent_of : {D : Type 0} → ServerNode D → Option (Server D)
-lent_of server = lent_in server.post
+lent_of server = live_of (λ keeper. keeper.server) server.post
 
--- the stamps of a live server's tree
-abbrev pub stamps_in : {D : Type 0} → Post (ServerKeeper D) (Disks D) → Stamps
-stamps_in (Up keeper) = (servers.state_of keeper.server).stamps
-stamps_in post = opening_stamps
+-- the state of a live server, or else the opening one
+abbrev pub state_in : {D : Type 0} → Post (ServerKeeper D) (Disks D) → State
+state_in (Up keeper) = servers.state_of keeper.server
+state_in post = opening
 
+-- the stamps of its tree
 abbrev pub stamps_of : {D : Type 0} → ServerNode D → Stamps
-stamps_of server = stamps_in server.post
+stamps_of server = (state_in server.post).stamps
 
--- how many commits a live server has
-abbrev pub count_in : {D : Type 0} → Post (ServerKeeper D) (Disks D) → ℕ
-count_in (Up keeper) = length (servers.state_of keeper.server).labels
-count_in post = 0
-
+-- how many commits it has
 abbrev pub count_of : {D : Type 0} → ServerNode D → ℕ
-count_of server = count_in server.post
+count_of server = length (state_in server.post).labels
 
 -- ---- for which node of the machine it stands
 
@@ -109,10 +101,6 @@ pub record IsKnown (names : List (List ℕ)) (commit : Commit) : Type 0 where
 abbrev pub AreKnown : List (List ℕ) → List Commit → Type 0
 AreKnown names commits = AllByRecursion (IsKnown names) commits
 
-abbrev pub AreKnownIfAny : List (List ℕ) → Option (List Commit) → Type 0
-AreKnownIfAny names None = Unit {0}
-AreKnownIfAny names (Some commits) = AreKnown names commits
-
 -- it has one commit more, which can follow: a record leads from the state of the one list to that of the other
 pub record IsOneMore (commits longer : List Commit) : Type 0 where
   pub commit : Commit
@@ -121,29 +109,28 @@ pub record IsOneMore (commits longer : List Commit) : Type 0 where
   pub leads : Leads (rules Two) (body ∷ []) (state_of commits) (state_of longer)
 
 abbrev pub IsOneMoreIfAny : List Commit → Option (List Commit) → Type 0
-IsOneMoreIfAny commits None = Unit {0}
-IsOneMoreIfAny commits (Some longer) = IsOneMore commits longer
+IsOneMoreIfAny commits = If (IsOneMore commits)
 
--- so is each commit of what is durable, and of what is in doubt, which has one more than what is durable, and one that can follow
-pub record NodeIsKnown (names : List (List ℕ)) (node : Node (List Commit)) : Type 0 where
-  pub durable : AreKnown names node.durable
-  pub doubt : AreKnownIfAny names node.doubt
-  pub longer : IsOneMoreIfAny node.durable node.doubt
+-- so is each commit of these, and of what is in doubt, which has one more than these, and one that can follow
+pub record AreSettled (names : List (List ℕ)) (commits : List Commit) (later : Option (List Commit)) : Type 0 where
+  pub durable : AreKnown names commits
+  pub doubt : If (AreKnown names) later
+  pub longer : IsOneMoreIfAny commits later
+
+-- that is so of what is durable
+abbrev pub NodeIsKnown : List (List ℕ) → Node (List Commit) → Type 0
+NodeIsKnown names node = AreSettled names node.durable node.doubt
 
 -- a live server has answered so many requests since its start, as far as it can count
-abbrev pub HasAnsweredIn : {D : Type 0} → ℕ → Post (ServerKeeper D) (Disks D) → Type 0
-HasAnsweredIn n (Up keeper) = (traffic_in keeper).requests ≡ n % 2 ^ 64
-HasAnsweredIn n post = Unit {0}
-
-abbrev pub HasAnswered : {D : Type 0} → ℕ → ServerNode D → Type 0
-HasAnswered n server = HasAnsweredIn n server.post
+abbrev pub HasAnswered : {D : Type 0} → ℕ → Post (ServerKeeper D) (Disks D) → Type 0
+HasAnswered n post = If (λ traffic. traffic.requests ≡ n % 2 ^ 64) (live_of traffic_in post)
 
 -- it stands for this node of the machine, where the clients have these names, and has answered so many requests
 pub record ServerStands {D : Type 0} (medium : Medium D) (names : List (List ℕ)) (server : ServerNode D) (node : Node (List Commit))
     (requests : ℕ) : Type 0 where
   pub post : PostStands (lists medium) (on_both medium) (kept_text names) server.post node
   pub known : NodeIsKnown names node
-  pub answered : HasAnswered requests server
+  pub answered : HasAnswered requests server.post
 
 -- the same, of those that have answered so many
 abbrev pub HavingAnswered : {D : Type 0} → Medium D → (names : List (List ℕ)) → (requests : ℕ) → ServerNode D → Node (List Commit) → Type 0
@@ -182,6 +169,13 @@ pub record IsUnopened {D : Type 0} (medium : Medium D) (server : ServerNode D) :
   pub empty_backup : IsEmpty medium backup
 
 -- ---- it goes on from its backup
+
+-- it is down, with its first disk and its backup
+pub record HasBackup {D : Type 0} (server : ServerNode D) : Type 0 where
+  pub first : D
+  pub last : D
+  pub doubt : Option Doubt
+  pub is : server.post ≡ Down (record { disk = placed false first last; doubt = doubt })
 
 -- the same node over the disks that it has then
 abbrev pub turned_post : {D : Type 0} → Post (ServerKeeper D) (Disks D) → Post (ServerKeeper D) (Disks D)
@@ -248,45 +242,6 @@ pub record IsNamedIn (names : List (List ℕ)) (it : Submission) : Type 0 where
   pub name : it.name ≡ transaction_name (slice_index_or names it.commit.entry.client []) it.commit.entry.number
 
 -- ---- requests
-
--- it is this server, alive, which gave this disk up, if it did
-abbrev pub live : {D : Type 0} → (given_up : Option D) → Server D → ServerNode D
-live given_up it = record { post = Up (record { server = it; given_up = given_up }) }
-
--- it is alive, and nothing is under way
-pub record IsLive {D : Type 0} (medium : Medium D) (server : ServerNode D) : Type 0 where
-  pub given_up : Option D
-  pub it : Server D
-  pub up : server ≡ live given_up it
-  pub synced : servers.IsSynced medium it
-
--- a live server did this, and is alive still
-pub record Lives {D : Type 0} (By : Server D → Server D → Type 0) (old new : ServerNode D) : Type 0 where
-  pub given_up : Option D
-  pub was : Server D
-  pub now : Server D
-  pub old_is : old ≡ live given_up was
-  pub new_is : new ≡ live given_up now
-  pub by : By was now
-
--- it has handled a request, and replied
-abbrev pub Handled : {D : Type 0} → Medium D → (asked reply : List ℕ) → (old new : ServerNode D) → Type 0
-Handled medium asked reply = Lives (Handles medium asked reply)
-
--- it gave no reply
-abbrev pub Refused : {D : Type 0} → Medium D → (asked : List ℕ) → JournalFault → (old new : ServerNode D) → Type 0
-Refused medium asked fault = Lives (Refuses medium asked fault)
-
--- A live server that was to append a commit gives up for this fault, with this in doubt: if that changes the list of the node so, it is
--- what a node does that stops in an append.
-pub record GivesUp {D : Type 0} (medium : Medium D) (names : List (List ℕ)) (fault : JournalFault) (doubt : Doubt) (old new : ServerNode D)
-    (before after : List ℕ) : Type 0 where
-  pub step : (was now : ServerKeeper D) (change : List Commit → List Commit) (node : Node (List Commit)) → old.post ≡ Up now
-      → UpStands (lists medium) (on_both medium) (kept_text names) was node
-      → Appended (lists medium) (on_both medium) {T = Unit {0}} change node.durable was now (Err fault)
-      → Doubts (lists medium) (kept_text names) change was doubt
-      → StepsFrom (PostStands (lists medium) (on_both medium) (kept_text names)) (Appends server_name change) node new.post before after
-      false
 
 -- The call is what a live server does with a request: it stops and gives no reply, which it says; or it answers what the bytes of the
 -- reply spell, and says nothing. What is to be said of a commit is what the call says: whoever called says it.

@@ -1,9 +1,10 @@
 //! The server's disks.
-ghost use Rattle.std.specs.Prelude.{◌≡◌, true, false, is_some};
+ghost use Rattle.std.specs.Prelude.{◌≡◌, false, is_some};
 ghost use Rattle.iot_node.specs.Disks.{KeepsImages, OnlyImage};
 ghost use Rattle.iot_node.specs.Keeping.{Armed};
 
 use iot_disk::{Disk, Pick};
+use std::mem;
 
 /// The server's disks: its own and the backup of that; or, since the backup was promoted, that alone, and the one that was given up.
 #[derive(Drop)]
@@ -19,9 +20,10 @@ pub struct Disks<D> {
 }
 
 impl<D: Disk> Disks<D> {
-    ghost use Rattle.iot_server_node.specs.Disks.{ArmsOther, IsPlaced, on_both, placed, sides_of};
+    ghost use Rattle.iot_server_node.specs.Disks.{ArmsOther, IsPlaced, on_both, placed, sides_of, turned};
 
     /// Starts the disk and its backup again, as after a crash: they read as one of their images, which is then the only one.
+    #[tactic(auto, using(crate::proofs::DisksLaws::both_only))]
     pub(crate) fn restart(&mut self)
         ensures image { (on_both D.medium).may_leave self.old ((on_both D.medium).reads self.new) }
         ensures only { OnlyImage ((on_both D.medium).reads self.new) ((on_both D.medium).may_leave self.new) }
@@ -56,33 +58,20 @@ impl<D: Disk> Disks<D> {
         }
     }
 
-    /// Gives the disk up for its backup, if it has one and gave none up before.
-    pub(crate) fn turn(self) -> Disks<D>
-        ensures { (first last : D) → self ≡ placed false first last → result ≡ placed true first last }
+    /// Gives the disk up for its backup, if it has one.
+    pub(crate) fn turn(&mut self)
+        requires { is_some self.old.given_up ≡ false }
+        ensures { self.new ≡ turned self.old }
     {
-        let Disks {
-            disk,
-            backup,
-            given_up,
-        } = self;
-        match given_up {
-            None => match backup {
-                Some(backup) => Disks {
-                    disk: backup,
-                    backup: None,
-                    given_up: Some(disk),
-                },
-                None => Disks {
-                    disk,
-                    backup: None,
-                    given_up: None,
-                },
-            },
-            Some(given_up) => Disks {
-                disk,
-                backup,
-                given_up: Some(given_up),
-            },
+        match self.backup.take() {
+            Some(backup) => {
+                let first = mem::replace(&mut self.disk, backup);
+                match mem::replace(&mut self.given_up, Some(first)) {
+                    None => (),
+                    Some(_before) => unreachable!(),
+                }
+            }
+            None => (),
         }
     }
 

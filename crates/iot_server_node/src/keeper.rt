@@ -35,9 +35,8 @@ impl<D: Disk> ServerKeeper<D> {
     pub(crate) fn handle(&mut self, alloc: Global, request: &[u8]) -> Result<Vec<u8>, JournalFault>
         requires synced { IsSynced D.medium self.old.server }
         requires request { IsSomeRequest request.now }
-        ensures handled { IfOk result (λ reply. Handles D.medium request.now reply.items self.old.server self.new.server) }
-        ensures refused { IfErr result (λ fault. Refuses D.medium request.now fault self.old.server self.new.server) }
-        ensures given_up { self.new.given_up ≡ self.old.given_up }
+        ensures handled { IfOk result (λ reply. Handles D.medium request.now reply.items self.old self.new) }
+        ensures refused { IfErr result (λ fault. Refuses D.medium request.now fault self.old self.new) }
         ensures disk { KeepsDisk (on_both D.medium) (Some (disks_in self.old)) (Some (disks_in self.new)) }
         ensures beside { sides_of D.medium (disks_in self.new) ≡ sides_of D.medium (disks_in self.old) }
     {

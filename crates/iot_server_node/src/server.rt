@@ -13,7 +13,7 @@ ghost use Rattle.iot_server.specs.Servers as servers;
 ghost use Rattle.iot_server_node.specs.Deciding.{DecidesServer};
 ghost use Rattle.iot_server_node.specs.Disks.{on_both, placed};
 ghost use Rattle.iot_server_node.specs.Keepers.{disks_in, lists};
-ghost use Rattle.iot_server_node.specs.Messages.{committed_since};
+ghost use Rattle.iot_server_node.specs.Messages.{committed_since, printed_under};
 ghost use Rattle.iot_server_node.specs.Records.{KeepsRecords};
 ghost use Rattle.iot_stamp.specs.Stamps.{Stamps, nodes_of};
 ghost use Rattle.iot_text.specs.Texts.{Extends};
@@ -27,7 +27,6 @@ use iot_node::{Comeback, Doubt, Fallen, Halt, Post, say, say_stop};
 use iot_server::Server;
 use iot_text::{NoMemory, Text};
 use std::alloc::Global;
-use std::mem;
 
 /// The server, alive or down.
 #[derive(Drop)]
@@ -47,10 +46,10 @@ pub struct Served {
 
 impl<D: Disk> ServerNode<D> {
     ghost use Rattle.iot_judging.specs.Verdicts.{SpellsVerdict};
-    ghost use Rattle.iot_server_node.specs.Messages.{IsSomeRequest, SpellsCut, printed_under};
+    ghost use Rattle.iot_server_node.specs.Messages.{IsSomeRequest, SpellsCut};
     ghost use Rattle.iot_server_node.specs.Servers.{is_up, disk_of, post_of, count_of, stamps_of, lent_of, ServerStands};
     ghost use Rattle.iot_server_node.specs.Servers.{HavingAnswered};
-    ghost use Rattle.iot_server_node.specs.Servers.{ServerIsSound, IsUnopened, HasDisk, IsLive, Handled, Refused, GivesUp, ServesBy};
+    ghost use Rattle.iot_server_node.specs.Servers.{ServerIsSound, IsUnopened, HasBackup, HasDisk, ServesBy};
     ghost use Rattle.iot_server_node.specs.Servers.{IsHanded, IsNamedIn, LendsServer, KeepsCommits, answered_since};
     ghost use Rattle.iot_server_node.specs.Servers.{is_promoted, turned_post, IsBeside, HasOther, HasDisks, KeepsBeside, Promotes};
     ghost use Rattle.iot_server_node.specs.Servers.{ArmsServersBackup, TurnsToBackup};
@@ -124,65 +123,26 @@ impl<D: Disk> ServerNode<D> {
         ensures beside { KeepsBeside D.medium self.old self.new }
     {
         let before = self.number();
-        match self.handle(alloc, message) {
+        let answer = match &mut self.post {
+            Post::Up(keeper) => keeper.handle(alloc, &message.request),
+            Post::Down(_) | Post::Between => unreachable!(),
+        };
+        match answer {
             Ok(reply) => Ok(Some(Served {
                 reply,
                 committed: committed_by(before, self.number()),
             })),
             Err(fault) => {
-                self.give_up(alloc, fault, message, before, out)?;
-                Ok(None)
+                let doubt = doubt_behind(alloc, before, message)?;
+                let stopped: Result<(), JournalFault> = Err(fault);
+                match self.post.take(stopped, doubt, b"server", out) {
+                    Ok(()) => Ok(None),
+                    Err(halt) => match halt {
+                        Halt::Over => Ok(None),
+                        Halt::NoMemory => Err(NoMemory),
+                    },
+                }
             }
-        }
-    }
-
-    /// What the server replies to the request.
-    fn handle(&mut self, alloc: Global, message: &Message) -> Result<Vec<u8>, JournalFault>
-        requires synced { IsLive D.medium self.old }
-        requires request { IsSomeRequest message.now.request.items }
-        ensures handled { IfOk result (λ reply.
-            Handled D.medium message.now.request.items reply.items self.old self.new) }
-        ensures refused { IfErr result (λ fault. Refused D.medium message.now.request.items fault self.old self.new) }
-        ensures disk { KeepsDisk (on_both D.medium) (disk_of self.old) (disk_of self.new) }
-        ensures beside { KeepsBeside D.medium self.old self.new }
-    {
-        match &mut self.post {
-            Post::Up(keeper) => keeper.handle(alloc, &message.request),
-            Post::Down(_) | Post::Between => unreachable!(),
-        }
-    }
-
-    /// No reply comes, for this fault: unless there is no memory, the server has stopped, with the commit of this message in doubt, behind
-    /// so many.
-    fn give_up(
-        &mut self,
-        alloc: Global,
-        fault: JournalFault,
-        message: &Message,
-        before: u64,
-        out: &mut Text,
-    ) -> Result<(), NoMemory>
-        requires up { is_up self.old ≡ true }
-        requires few { before + 1 < 2 ^ 64 }
-        ensures stopped { OnOk result (fault ≡ Stopped) }
-        ensures down { OnOk result (is_up self.new ≡ false) }
-        ensures step { OnOk result ((names : List (List ℕ)) → GivesUp D.medium names fault
-            (record { count = before; lines = printed_under (before + 1) message.now.handed }) self.old self.new out.old out.new) }
-        ensures disk { disk_of self.new ≡ disk_of self.old }
-    {
-        let mut lines = Text::new(alloc);
-        message.say_under(before + 1, &mut lines)?;
-        let doubt = Doubt {
-            count: before,
-            lines,
-        };
-        let answer: Result<(), JournalFault> = Err(fault);
-        match self.post.take(answer, doubt, b"server", out) {
-            Ok(()) => Ok(()),
-            Err(halt) => match halt {
-                Halt::Over => Ok(()),
-                Halt::NoMemory => Err(NoMemory),
-            },
         }
     }
 
@@ -278,14 +238,12 @@ impl<D: Disk> ServerNode<D> {
         requires down { is_up self.old ≡ false }
         requires own { is_promoted self.old ≡ false }
         requires other { HasOther D.medium self.old }
-        ensures { post_of self.new ≡ turned_post (post_of self.old) }
+        ensures down { HasBackup self.old }
+        ensures turned { post_of self.new ≡ turned_post (post_of self.old) }
     {
-        match mem::replace(&mut self.post, Post::Between) {
-            Post::Down(Fallen { disk, doubt }) => {
-                let disk = disk.turn();
-                self.post.turn_to(Post::Down(Fallen { disk, doubt }));
-            }
-            _other => unreachable!(),
+        match &mut self.post {
+            Post::Down(fallen) => fallen.disk.turn(),
+            Post::Up(_) | Post::Between => unreachable!(),
         }
     }
 
@@ -383,6 +341,17 @@ impl<D: Disk> ServerNode<D> {
             Post::Down(_) | Post::Between => 0,
         }
     }
+}
+
+/// What is in doubt if the commit of this message, behind so many, was cut off.
+fn doubt_behind(alloc: Global, count: u64, message: &Message) -> Result<Doubt, NoMemory>
+    requires { count + 1 < 2 ^ 64 }
+    ensures { IfOk result (λ doubt.
+        doubt ≡ record { count = count; lines = printed_under (count + 1) message.now.handed }) }
+{
+    let mut lines = Text::new(alloc);
+    message.say_under(count + 1, &mut lines)?;
+    Ok(Doubt { count, lines })
 }
 
 /// The number under which something was committed, if there were so many commits before, and there are so many now.

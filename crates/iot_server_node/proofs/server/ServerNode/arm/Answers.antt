@@ -5,16 +5,15 @@ use Rattle.iot_server_node.specs.Disks.{on_both}
 use Rattle.iot_server_node.specs.Keepers.{disks_in}
 use Rattle.iot_server_node.specs.Servers.{disk_of}
 use Rattle.iot_server_node.specs.Prelude.{kept_text}
-use Rattle.iot_server_node.proofs.ServersLaws.{with_known, keeps_same, known_armed, answered_same}
+use Rattle.iot_server_node.proofs.ServersLaws.{with_known, keeps_same, known_armed}
 use Rattle.iot_server_node.proofs.server.ServerNode.arm.Goals as goal
 
 pub returns-clause-step : goal.returns-clause-step
 returns-clause-step g c =
     on_ok_weaker c.arm.result
     (λ step names n.
-    with_known g.D.Disk.medium names (step 0 (kept_text names))
-    (λ node after text here. known_armed names c.args.calls c.args.pick node after text)
-    (λ had. answered_same c.args.self.now.post c.arm.new.self n c.arm.ensures.live had))
+    with_known g.D.Disk.medium names (step 0 (kept_text names)) (known_armed names c.args.calls c.args.pick)
+    (λ had. rw c.arm.ensures.live had))
     c.arm.ensures.step
 
 pub returns-clause-beside : goal.returns-clause-beside

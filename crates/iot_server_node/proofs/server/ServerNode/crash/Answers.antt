@@ -9,8 +9,7 @@ pub returns-clause-step : goal.returns-clause-step
 returns-clause-step g c =
     if_ok_both c.crash.result
     (λ done step down names n.
-    with_known g.D.Disk.medium names (step 0 (kept_text names)) (λ node after text here. known_crash names node after text)
-    (λ had. answered_off c.crash.new.self n down))
+    with_known g.D.Disk.medium names (step 0 (kept_text names)) (known_crash names) (λ had. answered_off c.crash.new.self n down))
     c.crash.ensures.step c.crash.ensures.down
 
 pub returns-clause-disk : goal.returns-clause-disk

@@ -10,6 +10,5 @@ pub returns-clause-step : goal.returns-clause-step
 returns-clause-step g c =
     if_ok_both c.open.result
     (λ on step fresh names n.
-    with_known g.D.Disk.medium names (step (kept_text names)) (λ node after text here. known_opens names on node after text)
-    (λ had. answered_fresh c.open.new.self on fresh))
+    with_known g.D.Disk.medium names (step (kept_text names)) (known_opens names on) (λ had. answered_fresh c.open.new.self on fresh))
     c.open.ensures.step c.open.ensures.live

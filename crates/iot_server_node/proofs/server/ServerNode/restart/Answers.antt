@@ -1,19 +1,20 @@
-use Rattle.iot_server_node.proofs.Common.{sym, ◌∙◌}
+use Rattle.iot_server_node.proofs.Common.{asks, bind, false, nothing, sym, ◌∙◌}
 use Rattle.iot_server_node.specs.Prelude.{kept_text}
 use Rattle.iot_server_node.proofs.DecidingLaws.{decides}
 use Rattle.iot_server_node.specs.Deciding.{images_for}
 use Rattle.iot_server_node.specs.Prelude.{Restart, restart_words, server_name}
 use Rattle.iot_server_node.proofs.ServersLaws.{keeps_own}
-use Rattle.iot_server_node.proofs.ServersLaws.{restarts, with_known, known_comes_back, answered_fresh}
+use Rattle.iot_server_node.proofs.ServersLaws.{up_is, with_known, known_comes_back, answered_fresh}
 use Rattle.iot_server_node.proofs.server.ServerNode.restart.Goals as goal
 
 pub returns-clause-step : goal.returns-clause-step
 returns-clause-step g c names n =
-    restarts g.D.Disk.medium names c.args.self.now (record { post = c.come_back.new.self }) n _ _ c.in_ok-come_back.field-0
-    (sym c.is_up.ensures ∙ c.if-is_up.false)
+    let down = sym c.is_up.ensures ∙ c.if-is_up.false in
+    rw down (bind {a = false} (asks (λ node here. sym (up_is g.D.Disk.medium names c.args.self.now node n here ∙ down)))
+    (bind {a = c.in_ok-come_back.field-0}
     (with_known g.D.Disk.medium names (c.in_ok-come_back.ensures.step (kept_text names))
-    (λ node after text here. known_comes_back names (restart_words server_name) c.in_ok-come_back.field-0 node after text)
-    (λ had. answered_fresh c.come_back.new.self c.in_ok-come_back.field-0 c.in_ok-come_back.ensures.live))
+    (known_comes_back names (restart_words server_name) c.in_ok-come_back.field-0)
+    (λ had. answered_fresh c.come_back.new.self c.in_ok-come_back.field-0 c.in_ok-come_back.ensures.live)) nothing))
 
 pub returns-clause-decided : goal.returns-clause-decided
 returns-clause-decided g c =

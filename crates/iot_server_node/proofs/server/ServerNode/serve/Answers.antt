@@ -1,52 +1,87 @@
-use Rattle.iot_server_node.proofs.Common.{◌∙◌, committed_since}
+use Rattle.iot_server_node.proofs.Common.{◌∙◌, committed_since, refl}
+use Rattle.std.proofs.Common.{Err, rules, ◌≡◌}
+use Rattle.iot_disk.specs.declared.faults.JournalFault.TheVariants.{Stopped}
+use Rattle.iot_node.specs.declared.halt.Halt.TheVariants.{Over}
+use Rattle.iot_server_node.specs.Prelude.{kept_text}
 use Rattle.iot_server_node.proofs.ServingLaws.{lends, stays_stamped, lends_always, judges, judges_stopped}
-use Rattle.iot_server_node.proofs.ServersLaws.{is_live, answered_off}
+use Rattle.iot_server_node.proofs.ServersLaws.{live_is}
 use Rattle.iot_server_node.proofs.BeginningLaws.{handled_records, refused_records}
 use Rattle.iot_server_node.proofs.server.ServerNode.serve.Goals as goal
 
-pub handle-requires-clause-synced : goal.handle-requires-clause-synced
-handle-requires-clause-synced g c =
-    is_live g.D.Disk.medium c.requires.sound.names c.args.self.now.post c.requires.sound.node c.requires.sound.stands.post c.requires.up
+pub handle-answer-requires-clause-synced : goal.handle-answer-requires-clause-synced
+handle-answer-requires-clause-synced g c = (rw c.in-Up.is at c.requires.sound.stands.post).stands.synced
+
+-- ---- it has replied
 
 pub returns-in-Ok-clause-lends : goal.returns-in-Ok-clause-lends
 returns-in-Ok-clause-lends g c client held errand names asks =
-    lends g.D.Disk.medium c.args.message.now client held errand asks names
+    rw (live_is c.in-Up.is) (lends g.D.Disk.medium c.args.message.now client held errand asks names
     (record { reply = c.in-Ok.reply; committed = c.committed_by.result })
-    c.requires.sound c.in-Ok.ensures.handled
-    (c.committed_by.ensures ∙ (λ i. committed_since (c.number-before.ensures i) (c.number.ensures i)))
-
-pub returns-in-Ok-clause-judges : goal.returns-in-Ok-clause-judges
-returns-in-Ok-clause-judges g c it names hands named =
-    judges hands g.D.Disk.medium names named (record { reply = c.in-Ok.reply; committed = c.committed_by.result }) c.requires.sound
-    c.in-Ok.ensures.handled
-    (c.committed_by.ensures ∙ (λ i. committed_since (c.number-before.ensures i) (c.number.ensures i)))
-
-pub returns-in_ok-give_up-in-Err-clause-lends : goal.returns-in_ok-give_up-in-Err-clause-lends
-returns-in_ok-give_up-in-Err-clause-lends g c client held errand names asks n =
-    absurd (lends_always g.D.Disk.medium c.args.message.now client held errand asks c.in_ok-give_up-in-Err.ensures.stopped
-    c.in-Err.ensures.refused)
-
-pub returns-in_ok-give_up-in-Err-clause-judges : goal.returns-in_ok-give_up-in-Err-clause-judges
-returns-in_ok-give_up-in-Err-clause-judges g c it names hands named =
-    judges_stopped hands g.D.Disk.medium names named c.in_ok-give_up-in-Err.ensures.stopped c.in-Err.ensures.refused c.number-before.ensures
-    (c.in_ok-give_up-in-Err.ensures.step names) (λ n. answered_off c.give_up.new.self.post n c.in_ok-give_up-in-Err.ensures.down)
-
-pub returns-in-Ok-clause-records : goal.returns-in-Ok-clause-records
-returns-in-Ok-clause-records g c =
-    handled_records g.D.Disk.medium g.met.D.Disk.reads_is_image c.requires.sound c.in-Ok.ensures.handled
-
-pub returns-in_ok-give_up-in-Err-clause-records : goal.returns-in_ok-give_up-in-Err-clause-records
-returns-in_ok-give_up-in-Err-clause-records g c =
-    refused_records g.D.Disk.medium g.met.D.Disk.reads_is_image c.args.message.now.request.items c.in-Err.fault c.give_up.new.self
-    c.requires.sound c.in-Err.ensures.refused c.give_up.ensures.disk
-
-pub returns-in_err-give_up-in-Err-clause-records : goal.returns-in_err-give_up-in-Err-clause-records
-returns-in_err-give_up-in-Err-clause-records g c =
-    refused_records g.D.Disk.medium g.met.D.Disk.reads_is_image c.args.message.now.request.items c.in-Err.fault c.give_up.new.self
-    c.requires.sound c.in-Err.ensures.refused c.give_up.ensures.disk
+    (rw (live_is c.in-Up.is) at c.requires.sound) (rw c.deref.ensures.value at c.in-Ok.ensures.handled)
+    (rw (live_is c.in-Up.is) at
+    (c.committed_by.ensures ∙ (λ i. committed_since (c.number-before.ensures i) (c.number.ensures i)))))
 
 pub returns-in-Ok-clause-stamps : goal.returns-in-Ok-clause-stamps
 returns-in-Ok-clause-stamps g c client held errand asks =
-    stays_stamped g.D.Disk.medium c.args.message.now client held errand asks
-    (record { reply = c.in-Ok.reply; committed = c.committed_by.result })
-    c.in-Ok.ensures.handled
+    rw (live_is c.in-Up.is) (stays_stamped g.D.Disk.medium c.args.message.now client held errand asks
+    (record { reply = c.in-Ok.reply; committed = c.committed_by.result }) (rw c.deref.ensures.value at c.in-Ok.ensures.handled))
+
+pub returns-in-Ok-clause-judges : goal.returns-in-Ok-clause-judges
+returns-in-Ok-clause-judges g c it names hands named =
+    rw (live_is c.in-Up.is) (judges hands g.D.Disk.medium names named (record { reply = c.in-Ok.reply; committed = c.committed_by.result })
+    c.args.out.now (rw c.deref.ensures.value at c.in-Ok.ensures.handled)
+    (rw (live_is c.in-Up.is) at
+    (c.committed_by.ensures ∙ (λ i. committed_since (c.number-before.ensures i) (c.number.ensures i))))
+    (rw (live_is c.in-Up.is) at c.requires.sound))
+
+pub returns-in-Ok-clause-records : goal.returns-in-Ok-clause-records
+returns-in-Ok-clause-records g c =
+    rw c.in-Up.is (handled_records g.D.Disk.medium g.met.D.Disk.reads_is_image c.in-Up.keeper _
+    (rw (live_is c.in-Up.is) at c.requires.sound) c.in-Ok.ensures.handled)
+
+-- ---- it gave no reply
+
+pub returns-in-Over-clause-lends : goal.returns-in-Over-clause-lends
+returns-in-Over-clause-lends g c client held errand names asks n =
+    let stopped = c.in-Err-take.ensures.stopped (λ i. Err (c.in-Over.is i)) in
+    let is : c.in-Err.fault ≡ Stopped = cc in
+    absurd (lends_always g.D.Disk.medium c.args.message.now client held errand asks
+    (rw (c.deref.ensures.value, is) at c.in-Err.ensures.refused))
+
+pub returns-in-Over-clause-judges : goal.returns-in-Over-clause-judges
+returns-in-Over-clause-judges g c it names hands named =
+    let over : c.take.result ≡ Err Over = rw c.in-Over.is at c.in-Err-take.is in
+    let stopped = c.take.ensures.stopped over in
+    let is : c.in-Err.fault ≡ Stopped = cc in
+    let stops =
+    rw (c.in_ok-doubt-in-Err.ensures, is, over) at
+    (c.take.ensures.step 0 c.in-Up.keeper c.handle-answer.new.self (kept_text names)) in
+    rw (live_is c.in-Up.is) (judges_stopped hands g.D.Disk.medium names named (rw (c.deref.ensures.value, is) at c.in-Err.ensures.refused)
+    (rw (live_is c.in-Up.is) at c.number-before.ensures) (λ change node. stops change node refl) (c.take.ensures.off over))
+
+pub returns-in_err-doubt-in-Err-clause-records : goal.returns-in_err-doubt-in-Err-clause-records
+returns-in_err-doubt-in-Err-clause-records g c =
+    rw c.in-Up.is (refused_records g.D.Disk.medium g.met.D.Disk.reads_is_image c.in-Up.keeper _
+    (rw (live_is c.in-Up.is) at c.requires.sound) c.in-Err.ensures.refused)
+
+pub returns-in-Over-clause-records : goal.returns-in-Over-clause-records
+returns-in-Over-clause-records g c =
+    rw (c.in-Up.is, c.take.ensures.disk 0) (refused_records g.D.Disk.medium g.met.D.Disk.reads_is_image c.in-Up.keeper _
+    (rw (live_is c.in-Up.is) at c.requires.sound) c.in-Err.ensures.refused)
+
+pub returns-in-NoMemory-clause-records : goal.returns-in-NoMemory-clause-records
+returns-in-NoMemory-clause-records g c =
+    rw (c.in-Up.is, c.take.ensures.disk 0) (refused_records g.D.Disk.medium g.met.D.Disk.reads_is_image c.in-Up.keeper _
+    (rw (live_is c.in-Up.is) at c.requires.sound) c.in-Err.ensures.refused)
+
+pub returns-in-Over-clause-disk : goal.returns-in-Over-clause-disk
+returns-in-Over-clause-disk g c = rw (c.take.ensures.disk 0) (search rules)
+
+pub returns-in-NoMemory-clause-disk : goal.returns-in-NoMemory-clause-disk
+returns-in-NoMemory-clause-disk g c = rw (c.take.ensures.disk 0) (search rules)
+
+pub returns-in-Over-clause-beside : goal.returns-in-Over-clause-beside
+returns-in-Over-clause-beside g c promoted arms it = record { is = rw (c.take.ensures.disk 0) (search rules) }
+
+pub returns-in-NoMemory-clause-beside : goal.returns-in-NoMemory-clause-beside
+returns-in-NoMemory-clause-beside g c promoted arms it = record { is = rw (c.take.ensures.disk 0) (search rules) }
