@@ -1,20 +1,17 @@
 -- What the server's replies bring and say, and what a call of a laptop that appends a record makes of the client of the machine: its
--- change, or a stop in it.
+-- change, or a stop in it; and what a held tree has of a server's stamps through that.
 use Rattle.std.proofs.lemmas.Result.{IfOk-weaker, IfOk-at_ok}
-use Rattle.std.proofs.Common.{◌≡◌, ℕ, true, false, List, [], ◌∷◌, Option, Some, None, Result, Ok, Err, inl, inr}
-use Rattle.std.proofs.Common.{refl, sym, ap, subst, ◌∙◌, rules}
+use Rattle.std.proofs.Common.{◌≡◌, ℕ, true, false, List, [], ◌∷◌, Option, Some, None, Result, Ok, Err, inl, inr, refl, sym, ap, subst, ◌∙◌}
+use Rattle.std.proofs.Common.{rules, Bool, if◌then◌else◌}
 use Rattle.std.specs.Prelude.{IfOk, OnOk, IsErrOf, IfErr}
 use Rattle.std.proofs.lemmas.Option.{same_Some}
 use Rattle.iot_access.specs.Access.{access_of}
-use Rattle.iot_laptop.specs.Below.{Nodes, IsTree, IsSpelledTree, IsScript, Resolved, State, CanFollow, after, Notes}
-use Rattle.iot_laptop.specs.Below.{Live, IsTied, state_of, live_of, disk_of, records_of, Client}
-use Rattle.iot_laptop.specs.Below.{Call, StandWith, next as next_count, place_of}
-use Rattle.iot_laptop.specs.Below.{ClientFault, Stopped, Medium, Declared, ClientState, leave, repair, Node, Appends, Writes}
-use Rattle.iot_laptop.specs.Below.{KeepsDisk, Appended, UpStands, StepsFrom, Answered, is_on, StepsTo, Halt, NoMemory, Over, Post, Up}
-use Rattle.iot_laptop.specs.Below.{Between, no_text, SpellsVerdict, Laptop, Seated, Read, Resolution, Code, IsHeadsRun}
-use Rattle.iot_laptop.specs.Below.{verdict_change, Plan, reach, resolution_of}
-use Rattle.iot_laptop.specs.Below.{Item, reads_of, head_of, Stamps, nodes_of}
-use Rattle.iot_laptop.specs.Below.{stamps_of, brought, nothing_held}
+use Rattle.iot_laptop.specs.Below.{Nodes, IsTree, IsSpelledTree, IsScript, Resolved, State, CanFollow, after, Notes, Live, IsTied, state_of}
+use Rattle.iot_laptop.specs.Below.{live_of, disk_of, records_of, Client, Call, StandWith, next as next_count, place_of, ClientFault}
+use Rattle.iot_laptop.specs.Below.{Stopped, Medium, Declared, ClientState, leave, repair, Node, Appends, Writes, KeepsDisk, Appended}
+use Rattle.iot_laptop.specs.Below.{UpStands, StepsFrom, Answered, is_on, StepsTo, Halt, NoMemory, Over, Post, Up, Between, no_text}
+use Rattle.iot_laptop.specs.Below.{SpellsVerdict, Laptop, Seated, Read, Resolution, Code, IsHeadsRun, verdict_change, Plan, reach}
+use Rattle.iot_laptop.specs.Below.{resolution_of, Item, reads_of, head_of, Stamps, nodes_of, stamps_of, brought, nothing_held}
 use Rattle.iot_client.specs.Messages.{ReadsObjects, ReadsNoted, noted_in, objects_in, Makes, no_tree, no_changes}
 use Rattle.iot_views.specs.Rules.{IsTreeOfRows}
 use Rattle.iot_kept.specs.Bringing.{base_for, brought_for, bringing}
@@ -22,40 +19,44 @@ use Rattle.iot_kept.specs.declared.bringing.Purpose.{Purpose}
 use Rattle.iot_kept.proofs.BringingLaws.{base_spelled, brought_spelled}
 use Rattle.iot_kept.proofs.SyncedLaws.{synced_spelled}
 use Rattle.iot_tree.specs.declared.changes.Changes.{Changes as RowChanges}
-use Rattle.iot_laptop.specs.Laptops.{stamps_in, LaptopStands, ClientStands, live_by, live_in, records_in, records_by, disk_by}
-use Rattle.iot_laptop.specs.Laptops.{state_in}
+use Rattle.iot_laptop.specs.Laptops.{stamps_in, LaptopStands, ClientStands, live_by, live_in, records_in, records_by, disk_by, IsLent}
+use Rattle.iot_laptop.specs.Laptops.{state_in, KeepsTrails, is_alive, stamps_by}
 use Rattle.iot_standing.specs.States.{StateStands, head_option, told_change}
-use Rattle.iot_client.proofs.TrailsLaws.{same_changes}
+use Rattle.iot_client.proofs.TrailsLaws.{same_changes, nothing_trails}
 use Rattle.iot_machine.proofs.PossiblyLaws.{possibly_sure, appends_possibly}
 use Rattle.iot_node.proofs.PostsLaws.{same_counts}
 use Rattle.iot_machine.proofs.StepsLaws.{bind, answers}
 use Rattle.iot_changes.specs.declared.changes.Change.{Change}
 use Rattle.iot_changes.specs.declared.changes.Change.TheVariants.{Repaired, Left}
-use Rattle.iot_client.specs.Calls.{CutsOff, Brings, CutsOffByTree, CutsOffByVerdict, CutsOffByRun, Resolves}
-use Rattle.iot_client.specs.Calls.{CutsOffRerun, Reruns, RefusesReply}
+use Rattle.iot_client.specs.Calls.{CutsOff, Brings, CutsOffByTree, CutsOffByVerdict, CutsOffByRun, Resolves, CutsOffRerun, Reruns}
+use Rattle.iot_client.specs.Calls.{RefusesReply}
 use Rattle.iot_client.specs.Faults.{CountsFault, MayFail}
-use Rattle.iot_machine.specs.Calls.{Then}
 use Rattle.iot_machine.specs.Nodes.{changed}
-use Rattle.iot_node.specs.Steps.{EndsBy}
 use Rattle.iot_limits.proofs.TreesLaws.{tree_spelled}
 use Rattle.iot_client.specs.declared.noted.Noted.{Noted as NotedIn}
 use Rattle.iot_wire.specs.declared.replies.Reply.TheVariants.{Committed, Already, Conflict}
+use Rattle.iot_laptop.specs.Alone.{NotesAlone}
+use Rattle.iot_laptop.specs.Calls.{appended, done, Before, EndsAlone, GoesOn, Changes, Repairs, Plans, TakesVerdict, head_reads, acts_in}
+use Rattle.iot_laptop.specs.Calls.{TakesStamps, UnlessNoMemory}
+use Rattle.iot_standing.specs.Kept.{StateKept}
+use Rattle.iot_laptop.specs.Messages.{SpellsTree}
+use Rattle.iot_standing.specs.Scripts.{AreNamed}
+use Rattle.iot_laptop.specs.Seats.{seating, Besides, besides, none_besides}
+use Rattle.iot_standing.proofs.KeptLaws.{KeptLive, left_live, noted_as, repaired_live, resolved_live, stands_so, told_live}
+use Rattle.iot_standing.proofs.RunsLaws.{lives_then}
+use Rattle.iot_laptop.proofs.NodesLaws.{Posted, not_both, up_stands, awake_at, fallen_at, at_node}
+use Rattle.iot_kept.proofs.TrailsLaws.{IsOwn}
+use Rattle.iot_laptop.proofs.SeatsLaws.{besides_again, fresh_lent}
+use Rattle.iot_stamp.specs.Trails.{KeepsTrail, Trails}
+use Rattle.iot_stamp.proofs.TrailsLaws.{none_trails, same_trails, same_stamps}
 use Rattle.iot_disk.specs.declared.faults.JournalFault.TheVariants as append
 use Rattle.iot_machine.specs.Machine as machine
 use Rattle.iot_machine.specs.Clients as clients
 use Rattle.iot_machine.specs.Serving as serving
 use Rattle.iot_client.specs.declared.fault.ClientFault.TheVariants as faults
-use Rattle.iot_laptop.specs.Alone.{NotesAlone}
-use Rattle.iot_laptop.specs.Calls.{appended, done, Before, EndsAlone, GoesOn, Changes, Repairs, Plans}
-use Rattle.iot_laptop.specs.Calls.{TakesVerdict, head_reads, acts_in}
-use Rattle.iot_standing.specs.Kept.{StateKept}
-use Rattle.iot_laptop.specs.Messages.{SpellsTree}
-use Rattle.iot_standing.specs.Scripts.{AreNamed}
-use Rattle.iot_laptop.specs.Seats.{seating}
-use Rattle.iot_standing.proofs.KeptLaws.{KeptLive, left_live, noted_as, repaired_live, resolved_live, stands_so, told_live}
-use Rattle.iot_standing.proofs.RunsLaws.{lives_then}
-use Rattle.iot_laptop.proofs.NodesLaws.{Posted, not_both, up_stands, awake_at, fallen_at, at_node}
 use Rattle.iot_laptop.specs.Calls as calls
+use Rattle.iot_client.proofs.TrailsLaws as client
+use Rattle.iot_node.specs.Posts as posts
 
 -- ---- trees
 
@@ -114,23 +115,9 @@ pub as_is : (r : Result (Unit {0}) Halt) → done r ≡ r
 as_is (Ok it) = refl
 as_is (Err halt) = refl
 
--- a first step that says nothing
-pub quietly : {M A B : Type 0} {one : Call M A} {next : A → Call M B} {m n : M} {text : List ℕ} {b : B} (a : A) (mid : M) → one m [] a mid
-    → next a mid text b n → Then one next m text b n
-quietly {text = text} a mid first second =
-    record { mid = mid; front = []; rest = text; answer = a; first = first; second = second; whole = refl }
-
 -- ---- a call
 
--- what each call of a laptop's client says that was to append a record behind so many others
-pub record Behaves {D T : Type 0} (medium : Medium D) (laptop : Laptop D) (was now : Client D) (answer : Result T ClientFault)
-    (count : ℕ) : Type 0 where
-  pub counted : count ≡ records_in laptop
-  pub tied : OnOk answer (IsTied medium now)
-  pub counts : CountsFault answer (medium.faults (disk_of was)) (medium.faults (disk_of now))
-  pub arms : medium.arms (disk_of now) ≡ medium.arms (disk_of was)
-
--- such a call, and what the laptop makes of its answer
+-- a call of a laptop's client that was to append a record behind so many others, and what the laptop makes of its answer
 pub record Called {D T : Type 0} (medium : Medium D) (laptop : Laptop D) (was now : Client D) (answer : Result T ClientFault)
     (new : Laptop D) (x y : List ℕ) (result : Result T Halt) : Type 0 where
   pub up : laptop.post ≡ Up (record { client = was })
@@ -138,16 +125,17 @@ pub record Called {D T : Type 0} (medium : Medium D) (laptop : Laptop D) (was no
   pub placed : place_of was ≡ laptop.place
   pub count : ℕ
   pub goes : GoesOn medium (record laptop { post = Up (record { client = now }) }) new count answer x y result
-  pub behaves : Behaves medium laptop was now answer count
-  pub open behaves use *
+  pub counted : count ≡ records_in laptop
+  pub tied : OnOk answer (IsTied medium now)
+  pub counts : CountsFault answer (medium.faults (disk_of was)) (medium.faults (disk_of now))
+  pub arms : medium.arms (disk_of now) ≡ medium.arms (disk_of was)
 
 pub called : {D T : Type 0} {medium : Medium D} {laptop : Laptop D} {was now : Client D} {answer : Result T ClientFault}
-    {new : Laptop D} {count : ℕ} {x y : List ℕ} {result : Result T Halt} {node : Node ClientState}
-    → UpStands (seating medium laptop.place) medium no_text (record { client = was }) node → laptop.post ≡ Up (record { client = was })
-    → GoesOn medium (record laptop { post = Up (record { client = now }) }) new count answer x y result
-    → Behaves medium laptop was now answer count → Called medium laptop was now answer new x y result
-called it up goes behaves =
-    record { up = up; was_tied = it.stands.tied; placed = it.stands.place_is; count = _; goes = goes; behaves = behaves }
+    {new : Laptop D} {count : ℕ} {x y : List ℕ} {result : Result T Halt} → IsLent medium laptop was
+    → GoesOn medium (record laptop { post = Up (record { client = now }) }) new count answer x y result → count ≡ records_in laptop
+    → OnOk answer (IsTied medium now) → CountsFault answer (medium.faults (disk_of was)) (medium.faults (disk_of now))
+    → medium.arms (disk_of now) ≡ medium.arms (disk_of was) → Called medium laptop was now answer new x y result
+called it goes counted tied counts arms = search rules
 
 -- what is known of a client of the machine before it, which keeps this state, and of what runs this besides
 pub record Known {D : Type 0} (medium : Medium D) (scripts : List Declared) (s : State) (lives : List Live) (laptop : Laptop D)
@@ -156,12 +144,6 @@ pub record Known {D : Type 0} (medium : Medium D) (scripts : List Declared) (s :
   pub open before use *
   pub kept : KeptLive scripts s lives m.first m.node.durable
 
--- it was to append this change, which leaves what is known besides of what runs
-pub record Noted {D T : Type 0} (medium : Medium D) (was now : Client D) (answer : Result T ClientFault) (change : Change) : Type 0 where
-  pub notes : OnOk answer (Notes change was now)
-  pub lives : OnOk answer (live_of now ≡ live_of was)
-  pub stops : IsErrOf answer Stopped → CutsOff change (state_of was) (records_of was) (medium.may_leave (disk_of now))
-
 -- ---- what is said of the first that waits
 
 said_as : (reads : List Read) (reply : List ℕ) (told : serving.Verdict) (said : NotedIn) → SpellsVerdict reads reply told
@@ -169,6 +151,21 @@ said_as : (reads : List Read) (reply : List ℕ) (told : serving.Verdict) (said 
 said_as reads reply (serving.Settled number) said (inl spells) only read = cc (only (Committed number) spells)
 said_as reads reply (serving.Settled number) said (inr spells) only read = cc (only (Already number) spells)
 said_as reads reply (serving.Conflict place question) said spells only read = cc (only (Conflict place spells.1.answer) spells.1.spelled)
+
+-- ---- the stamps of a laptop
+
+off_nothing : {D : Type 0} (post : Post (Seated D) D) → is_on post ≡ false → stamps_by post ≡ nothing_held
+off_nothing (Up seated) off = absurd cc
+off_nothing other off = refl
+
+-- one that is down holds nothing
+pub off_trails : {D : Type 0} (old new : Laptop D) → is_alive new ≡ false → KeepsTrails old new
+off_trails old new off = λ server bound positive it.
+    subst (Trails server bound) (sym (off_nothing new.post off)) (nothing_trails server bound positive)
+
+-- the same stamps
+pub stays_trails : {D : Type 0} (old new : Laptop D) → stamps_in new ≡ stamps_in old → KeepsTrails old new
+stays_trails old new same = same_stamps (stamps_in old) (stamps_in new) same
 
 -- ---- a call of this laptop
 
@@ -237,11 +234,8 @@ module _ {D T : Type 0} {medium : Medium D} {laptop : Laptop D} {was now : Clien
           answered m here (rw stopped (
             (λ n seat. record {
               each = λ image left. elim (cut.either.each image left) [
-                | inl before ↦ inl (record {
-                  state = s;
-                  stands = subst (λ (k : ℕ). StandWith image k s) seat.counted before;
-                  kept = seat.kept;
-                })
+                | inl before ↦
+                    inl (record { state = s; stands = subst (λ (k : ℕ). StandWith image k s) seat.counted before; kept = seat.kept })
                 | inr more ↦ inr (record {
                   state = after s change;
                   stands = subst (λ (k : ℕ). StandWith image (next_count k) (after s change)) seat.counted more;
@@ -298,14 +292,7 @@ module _ {D T : Type 0} {medium : Medium D} {laptop : Laptop D} {was now : Clien
   known_was scripts m here =
       let stands : StateStands s (live_of was) m.first m.node.durable = rw call.up at here.state in
       let up = up_stands medium scripts laptop m was call.up here in
-      record {
-        before = record { name = here.name; link = here.link; alive = here.alive; node = here.node; named = here.named };
-        kept = record {
-          kept = up.stands.kept;
-          runs = lives_then s.running (live_of was) m.first m.node.durable.running stands.running;
-          named = here.named;
-        };
-      }
+      let runs = lives_then s.running (live_of was) m.first m.node.durable.running stands.running in search rules
 
   pub from_known : {A : Type 0} {after_it : Laptop D → machine.Client → Type 0} {does : Call machine.Client A} (scripts : List Declared)
       (l : Laptop D) (z : List ℕ) (a : A) → StepsTo (Known medium scripts s (live_of was)) after_it does laptop l x z a
@@ -317,36 +304,35 @@ module _ {D T : Type 0} {medium : Medium D} {laptop : Laptop D} {was now : Clien
       → StepsTo (Known medium scripts s (live_of was)) (LaptopStands medium scripts) (NotesAlone next) laptop new x y (Some tt))
       → (result ≡ Err Over
       → StepsTo (Known medium scripts s (live_of was)) (ClientStands medium scripts) (NotesAlone next) laptop new x y None)
-      → EndsAlone medium scripts (NotesAlone next) laptop new x y (done result)
-  alone_by scripts next went over = record { is = by result refl }
-    where
-      by : (r : Result T Halt) → result ≡ r
-          → EndsBy (LaptopStands medium scripts) (ClientStands medium scripts) (NotesAlone next) laptop new x y (done r)
-      by (Ok t) same = from_known scripts new y (Some tt) (went t same)
-      by (Err NoMemory) same = tt
-      by (Err Over) same = from_known scripts new y None (over same)
+      → (r : Result T Halt) → result ≡ r → EndsAlone medium scripts (NotesAlone next) laptop new x y (done r)
+  alone_by scripts next went over (Ok t) same = record { is = from_known scripts new y (Some tt) (went t same) }
+  alone_by scripts next went over (Err NoMemory) same = record { is = tt }
+  alone_by scripts next went over (Err Over) same = record { is = from_known scripts new y None (over same) }
 
-  -- by a call that notes this change, or stops in that
-  alone : (scripts : List Declared) (next : ClientState → ClientState) (change : Change) → Noted medium was now answer change
+  -- by a call that notes this change, which leaves what is known of what runs, or stops in that
+  alone : (scripts : List Declared) (next : ClientState → ClientState) (change : Change) → OnOk answer (Notes change was now)
+      → OnOk answer (live_of now ≡ live_of was) → (IsErrOf answer Stopped → cuts change)
       → ((m : machine.Client) → Known medium scripts s (live_of was) laptop m → CanFollow s change
       → KeptLive scripts (after s change) (live_of was) m.first (next m.node.durable))
       → EndsAlone medium scripts (NotesAlone next) laptop new x y (done result)
-  alone scripts next change noted kept =
+  alone scripts next change notes lives stops kept =
       alone_by scripts next
       (λ t same.
       let ok = answered_so t same in
-      notes_at scripts (live_of was) (live_of was) next (λ b. b) change kept t same (IfOk-at_ok _ ok noted.notes)
-      (IfOk-at_ok _ ok noted.lives))
-      (λ same. notes_halt scripts (live_of was) (live_of was) next (λ b. b) change kept same (noted.stops (call.goes.stopped same)))
+      notes_at scripts (live_of was) (live_of was) next (λ b. b) change kept t same (IfOk-at_ok _ ok notes) (IfOk-at_ok _ ok lives))
+      (λ same. notes_halt scripts (live_of was) (live_of was) next (λ b. b) change kept same (stops (call.goes.stopped same)))
+      result refl
 
   -- the first that waits leaves
-  pub leaves : Noted medium was now answer Left → Changes medium leave laptop new x y (done result)
-  leaves noted scripts = alone scripts leave Left noted (λ m here. left_live here.kept)
+  pub leaves : OnOk answer (Notes Left was now) → OnOk answer (live_of now ≡ live_of was) → (IsErrOf answer Stopped → cuts Left)
+      → Changes medium leave laptop new x y (done result)
+  leaves notes lives stops scripts = alone scripts leave Left notes lives stops (λ m here. left_live here.kept)
 
   -- a repair
-  pub repairs : (name : List ℕ) → Noted medium was now answer (Repaired name) → Repairs medium name laptop new x y (done result)
-  repairs name noted scripts script named same =
-      alone scripts (repair script) (Repaired name) noted (λ m here follows. repaired_live here.kept name script same named)
+  pub repairs : (name : List ℕ) → OnOk answer (Notes (Repaired name) was now) → OnOk answer (live_of now ≡ live_of was)
+      → (IsErrOf answer Stopped → cuts (Repaired name)) → Repairs medium name laptop new x y (done result)
+  repairs name notes lives stops scripts script named same =
+      alone scripts (repair script) (Repaired name) notes lives stops (λ m here follows. repaired_live here.kept name script same named)
 
   -- the change by the tree that the reply makes
   pub brings : {purpose : Purpose} {other : Nodes → ClientState → ClientState} {reply : List ℕ} → ReadsObjects reply
@@ -368,22 +354,17 @@ module _ {D T : Type 0} {medium : Medium D} {laptop : Laptop D} {was now : Clien
       (base_spelled purpose (stamps_of was) (synced_spelled medium was.kept call.was_tied.synced).held) spells.spelled.value
       (subst IsTree spells.is spells.tree)) in
       alone scripts (other t) (brought_for purpose t)
-      (record {
-        notes = IfOk-weaker answer _ _ (λ u it.
-            subst (λ (change : Change). Notes change was now) (is it.changes it.read) it.notes) brought_by;
-        lives = lives;
-        stops = λ stopped. let it = stops stopped in subst cuts (is it.changes it.read) it.cuts_off;
-      })
+      (IfOk-weaker answer _ _ (λ u it. subst (λ (change : Change). Notes change was now) (is it.changes it.read) it.notes) brought_by)
+      lives (λ stopped. let it = stops stopped in subst cuts (is it.changes it.read) it.cuts_off)
       (λ m here follows. known scripts m.first m.node.durable here.kept t follows spells.tree (tree_spelled t rows))
 
-  -- of a reply by which nothing but the held tree changes
+  -- of a reply by which nothing but the held tree changes, what runs goes on
   pub holds_beside : (purpose : Purpose) (reply : List ℕ) → OnOk answer (Brings purpose reply was now)
       → ((t : Nodes) → after s (brought_for purpose t) ≡ record s { held = t })
-      → OnOk result (((state_in new).items ≡ (state_in laptop).items) × ((state_in new).running ≡ (state_in laptop).running))
+      → OnOk result ((state_in new).running ≡ (state_in laptop).running)
   holds_beside purpose reply brought_by holds = if_two result call.goes.same call.goes.answers (λ u same was_so.
       let notes = (IfOk-at_ok _ was_so brought_by).notes in
-      let is : state_in new ≡ record s { held = _ } = ap state_in same ∙ notes.state ∙ holds _ in
-      rw (is, call.up) (refl, refl))
+      let is : state_in new ≡ record s { held = _ } = ap state_in same ∙ notes.state ∙ holds _ in rw (is, call.up))
 
   -- what is said of the first that waits, by its option
   pub takes_verdict : (noted : T → NotedIn) (reply : List ℕ) → ReadsNoted reply → IfOk answer (λ t. noted_in reply ≡ Ok (noted t))
@@ -394,13 +375,10 @@ module _ {D T : Type 0} {medium : Medium D} {laptop : Laptop D} {was now : Clien
       let is : (said : NotedIn) → noted_in reply ≡ Ok said → said ≡ noted_as told =
       λ said. said_as (head_reads s.items) reply told said (rw call.up at spells) only in
       alone scripts (told_change told option) (verdict_change (noted_as told))
-      (record {
-        notes = if_two answer reads notes (λ t read it.
-            subst (λ (said : NotedIn). Notes (verdict_change said) was now) (is (noted t) read) it);
-        lives = lives;
-        stops = λ stopped.
-            let cut = stops stopped in subst (λ (said : NotedIn). cuts (verdict_change said)) (is cut.said cut.noted) cut.cuts_off;
-      })
+      (if_two answer reads notes (λ t read it. subst (λ (said : NotedIn). Notes (verdict_change said) was now) (is (noted t) read) it))
+      lives
+      (λ stopped.
+      let cut = stops stopped in subst (λ (said : NotedIn). cuts (verdict_change said)) (is cut.said cut.noted) cut.cuts_off)
       (λ m here. told_live here.kept told option (rw call.up at first))
 
   -- a resolution
@@ -431,6 +409,32 @@ module _ {D T : Type 0} {medium : Medium D} {laptop : Laptop D} {was now : Clien
       (spelled_changes it.changes only it.read spells) it.reruns in
       notes_halt scripts (live_of was) (live_of was) (reach stage) (λ b. b) (Resolved cut.done (access_of cut.done.acts t))
       (kept cut.done cut.run) over cut.cuts_off)
+      result refl
+
+  -- ---- a server's stamps
+
+  -- a call of its client that kept the stamps of a server
+  pub goes_trails : OnOk answer (KeepsTrail (stamps_of was) (stamps_of now)) → (r : Result T Halt) → result ≡ r
+      → UnlessNoMemory (done r) (KeepsTrails laptop new)
+  goes_trails keeps (Ok t) same = rw (IfOk-at_ok _ same call.goes.same, call.up) (IfOk-at_ok _ (answered_so t same) keeps)
+  goes_trails keeps (Err NoMemory) same = tt
+  goes_trails keeps (Err Over) same = off_trails laptop new (call.goes.down same)
+
+  -- so it is of one that noted such a change
+  pub noted_trails : (change : T → Change) → IfOk answer (λ t. Notes (change t) was now) → ((t : T) → IsOwn (change t))
+      → UnlessNoMemory (done result) (KeepsTrails laptop new)
+  noted_trails change notes own =
+      goes_trails (IfOk-weaker answer _ _ (λ t. client.noted_trails medium was now (change t) (own t) call.was_tied) notes) result refl
+
+  -- or that took changes of a server
+  pub takes_stamps : (purpose : Purpose) (reply : List ℕ) → ReadsObjects reply → OnOk answer (Brings purpose reply was now)
+      → (r : Result T Halt) → result ≡ r → TakesStamps (base_for purpose (stamps_in laptop)) reply laptop new r
+  takes_stamps purpose reply only brought_by (Ok t) same = λ changes spells.
+      let it : Brings purpose reply was now = IfOk-at_ok _ (answered_so t same) brought_by in
+      rw (IfOk-at_ok _ same call.goes.same, call.up)
+      (it.stamps ∙ ap (brought (base_for purpose (stamps_of was))) (same_changes reply it.changes changes only it.read spells))
+  takes_stamps purpose reply only brought_by (Err NoMemory) same = tt
+  takes_stamps purpose reply only brought_by (Err Over) same = off_nothing new.post (call.goes.down same)
 
 -- ---- its disk
 
@@ -443,3 +447,17 @@ keeps_post medium post outside = record { was = _; now = _; old_has = refl; new_
 pub keeps_same : {D : Type 0} (medium : Medium D) (post : Post (Seated D) D) → is_on post ≡ true → KeepsDisk medium (disk_by post)
     (disk_by post)
 keeps_same medium post up = keeps_post medium post (λ is. not_both (sym up ∙ ap (λ (p : Post (Seated _) _). is_on p) is))
+
+-- ---- its stamps
+
+-- no stamp is a server's after a start
+pub fresh_trails : {D : Type 0} (old : Laptop D) (post : Post (Seated D) D) (on : Bool)
+    → posts.live_of besides post ≡ (if on then Some none_besides else None) → KeepsTrail (stamps_in old) (stamps_by post)
+fresh_trails old post on same = λ server bound positive it.
+    none_trails (stamps_by post) (fresh_lent post on same) server bound positive
+
+-- they are the same if what is known besides is
+pub again_trails : {D : Type 0} (old new : Post (Seated D) D) → posts.live_of besides new ≡ posts.live_of besides old
+    → KeepsTrail (stamps_by old) (stamps_by new)
+again_trails old new same =
+    same_trails (stamps_by old) (stamps_by new) (ap (λ (b : Besides). b.lent) (besides_again old new same))

@@ -1,36 +1,33 @@
 -- A restart cuts off what ran, one after the other.
 use Rattle.std.proofs.lemmas.Result.{IfOk-weaker, IfOk-at_ok}
-use Rattle.std.proofs.Common.{◌≡◌, ℕ, true, false, List, [], ◌∷◌, ◌++◌, drop, length, Option, Some, None, Result, Ok, Err}
-use Rattle.std.proofs.Common.{refl, sym, ap, subst, ◌∙◌, arith}
+use Rattle.std.proofs.Common.{◌≡◌, ℕ, true, false, List, [], ◌∷◌, ◌++◌, length, Option, Some, None, Result, Ok, Err}
+use Rattle.std.proofs.Common.{refl, sym, ap, subst, ◌∙◌, arith, rules}
 use Rattle.std.specs.Prelude.{IfOk, OnOk, IsErrOf}
 use Rattle.std.proofs.lemmas.Option.{same_Some}
 use Rattle.iot_changes.specs.declared.changes.Change.TheVariants.{Cut}
 use Rattle.iot_client.specs.Calls.{Cuts, CutsIfAny, CutsOffCut}
-use Rattle.iot_client.specs.Ties.{AreRuns, classes_in}
 use Rattle.iot_kept.specs.Changes as records
-use Rattle.iot_laptop.specs.Below.{CanFollow, Client, ClientFault, Declared, Halt, Laptop, Medium, NoMemory, Notes}
-use Rattle.iot_laptop.specs.Below.{Over, Post, Seated, State, StepsTo, Stopped, Transaction, Up, UpStands, Writes, cut, disk_of}
-use Rattle.iot_laptop.specs.Below.{live_of, no_text, records_of, state_of, transaction_name}
-use Rattle.iot_laptop.specs.Calls.{Back, CutsAll, CutsFirst, Returned, ReturnedStands, RunFewer, UnlessNoMemory, done}
-use Rattle.iot_laptop.specs.Laptops.{ClientStands, KeepsTrails, awake, live_by, state_by, state_in}
-use Rattle.iot_laptop.specs.Seats.{begun_of, seating}
+use Rattle.iot_laptop.specs.Below.{CanFollow, Client, ClientFault, ClientState, Declared, Halt, Laptop, Medium, NoMemory}
+use Rattle.iot_laptop.specs.Below.{Over, Post, Seated, State, Stopped, Transaction, Up, UpStands, Writes, cut, disk_of}
+use Rattle.iot_laptop.specs.Below.{no_text, records_of, state_of, transaction_name}
+use Rattle.iot_laptop.specs.Calls.{Back, Before, CutsAll, CutsFirst, Returned, RunFewer, UnlessNoMemory, done}
+use Rattle.iot_laptop.specs.Laptops.{ClientStands, KeepsTrails, awake, state_by, state_in}
+use Rattle.iot_laptop.specs.Seats.{seating}
 use Rattle.iot_machine.specs.Events.{cuts_off}
 use Rattle.iot_machine.specs.Texts.{cut_line}
-use Rattle.iot_machine.proofs.StepsLaws.{bind, nothing, says}
-use Rattle.iot_standing.proofs.KeptLaws.{cut_kept, cut_named, idle_is, idle_runs, longest}
-use Rattle.iot_standing.proofs.RunsLaws.{none_live}
+use Rattle.iot_machine.proofs.StepsLaws.{at_each, at_one, bind, joined, nothing, quiet, says}
+use Rattle.iot_standing.proofs.KeptLaws.{cut_kept, cut_named, idle_is, longest}
 use Rattle.iot_standing.specs.Kept.{RunKept, StateKept}
 use Rattle.iot_machine.specs.Clients as clients
 use Rattle.iot_machine.specs.Machine as machine
-use Rattle.iot_laptop.proofs.CallsLaws.{Called, answered_so, goes_at, halts_at, quietly}
-use Rattle.iot_laptop.proofs.TrailsLaws.{goes_trails}
+use Rattle.iot_laptop.proofs.CallsLaws.{Called, answered_so, goes_at, halts_at}
+use Rattle.iot_laptop.proofs.CallsLaws.{goes_trails}
 use Rattle.iot_client.proofs.TrailsLaws.{cut_trails}
 use Rattle.iot_machine.specs.Calls.{Part, Says, Then, goes_on}
-use Rattle.iot_machine.specs.Nodes.{changed}
+use Rattle.iot_machine.specs.Refining.{StepFrom}
 use Rattle.iot_laptop.specs.Below.{after}
 use Rattle.iot_standing.specs.Scripts.{AreNamed}
-use Rattle.iot_laptop.proofs.NodesLaws.{awake_at}
-use Rattle.iot_laptop.proofs.SeatsLaws.{later_none}
+use Rattle.iot_laptop.proofs.NodesLaws.{awake_at, none_up}
 
 -- what is left of a cut once it is known how many acts are kept
 abbrev cuts_it : clients.Running → (acts : ℕ) → (later : List clients.Running) → Part machine.Client
@@ -43,16 +40,23 @@ cuts_it it acts later =
 module _ {D : Type 0} {medium : Medium D} {laptop : Laptop D} {was now : Client D} {answer : Result (Option (ℕ × ℕ)) ClientFault}
     {new : Laptop D} {x y : List ℕ} {result : Result (Option (ℕ × ℕ)) Halt} (call : Called medium laptop was now answer new x y result)
     (cuts : IfOk answer (λ told. CutsIfAny (state_of was).running told was now))
-    (lives : OnOk answer (live_of now ≡ drop 1 (live_of was)))
     (stops : IsErrOf answer Stopped
     → CutsOffCut (state_of was).running (state_of was) (records_of was) (medium.may_leave (disk_of now))) where
   abbrev s : State
   s = state_of was
 
-  kept_in : (scripts : List Declared) (m : machine.Client) → ReturnedStands medium scripts laptop m → StateKept s m.node.durable
+  kept_in : (scripts : List Declared) (m : machine.Client) → Before medium laptop scripts m → StateKept s m.node.durable
   kept_in scripts m here =
       let up : UpStands (seating medium laptop.place) medium no_text (record { client = was }) m.node = rw call.up at here.node in
       up.stands.kept
+
+  kept_then : (number acts : ℕ) (scripts : List Declared) (m : machine.Client) → Before medium laptop scripts m
+      → CanFollow s (Cut number acts)
+      → StateKept (after s (Cut number acts)) (cut acts m.node.durable) × AreNamed scripts (cut acts m.node.durable)
+  kept_then number acts scripts m here follows = (
+    cut_kept s m.node.durable (kept_in scripts m here) number acts follows,
+    cut_named scripts acts m.node.durable here.named,
+  )
 
   -- what it answered, by what ran
   did : (told : Option (ℕ × ℕ)) → result ≡ Ok told → CutsIfAny s.running told was now
@@ -75,73 +79,27 @@ module _ {D : Type 0} {medium : Medium D} {laptop : Laptop D} {was now : Client 
 
   -- nothing is done then
   none_cut : s.running ≡ [] → CutsAll medium laptop laptop x x
-  none_cut none scripts [] = record {
-    step = λ m h.
-        let kept = kept_in scripts m h.here in
-        let runs : AreRuns [] was.interpreters.items =
-        subst (λ (running : List Transaction). AreRuns running was.interpreters.items) none call.was_tied.runs in
-        let live : live_by laptop.post ≡ [] = ap live_by call.up ∙ none_live (classes_in was) was.interpreters.items runs in
-        (nothing {P = ClientStands medium scripts} {u = laptop} {x = x}).step m (awake
-        (awake_at medium scripts laptop m h.here.name h.here.link laptop.post m.node h.here.node h.here.alive m.first
-        (live ∙ idle_runs m.first s m.node.durable none kept) h.here.named));
-  }
-  none_cut none scripts (it ∷ later) = record {
-    step = λ m h.
-        let idle : m.node.durable.running ≡ [] = idle_is s m.node.durable none (kept_in scripts m h.here) in
-        let clash : it ∷ later ≡ [] = sym h.runs ∙ idle in absurd cc;
-  }
+  none_cut none scripts [] = at_each (λ m h.
+      let runs = none_up medium laptop.place laptop.post m.node h.here.node h.here.alive m.first
+      (ap (λ (p : Post (Seated D) D). (state_by p).running) call.up ∙ none) in
+      quiet m (refl, refl) (awake
+      (awake_at medium scripts laptop m h.here.name h.here.link laptop.post m.node h.here.node h.here.alive m.first runs h.here.named)))
+  none_cut none scripts (it ∷ later) = at_each (λ m h.
+      let clash : it ∷ later ≡ [] = sym h.runs ∙ idle_is s m.node.durable none (kept_in scripts m h.here) in absurd cc)
 
   -- ---- the first of those that ran
 
-  module _ (own : Transaction) (rest : List Transaction) (ran : s.running ≡ own ∷ rest) (acts : ℕ) where
-    kept_then : (scripts : List Declared) (m : machine.Client) → ReturnedStands medium scripts laptop m
-        → CanFollow s (Cut own.number acts)
-        → StateKept (after s (Cut own.number acts)) (cut acts m.node.durable) × AreNamed scripts (cut acts m.node.durable)
-    kept_then scripts m here follows = (
-      cut_kept s m.node.durable (kept_in scripts m here) own.number acts follows,
-      cut_named scripts acts m.node.durable here.named,
-    )
-
-    -- the machine finds how many of its acts hold, of the one that runs first there
-    finds : CanFollow s (Cut own.number acts) → (last : Laptop D) (z : List ℕ)
-        → ((scripts : List Declared) (it : clients.Running) (later : List clients.Running) → own.number ≡ it.number
-        → StepsTo (Back medium scripts (it ∷ later)) (ClientStands medium scripts) (cuts_it it acts later) laptop last x z tt)
-        → CutsAll medium laptop last x z
-    finds follows last z each scripts [] = record {
-      step = λ m h.
-          let none : RunKept (own ∷ rest) [] = rw (ran, h.runs) at (kept_in scripts m h.here).running in absurd none;
-    }
-    finds follows last z each scripts (it ∷ later) = record {
-      step = λ m h.
-          let found = longest s m.node.durable (kept_in scripts m h.here) own.number acts follows it later h.runs in
-          let t = (each scripts it later found.0).step m h in
-          (t.0, t.1, t.2, quietly acts m (refl, found.1, refl) t.3, t.4);
-    }
-
-    -- it is cut off
-    writes : {stands after_it : Laptop D → machine.Client → Type 0} (scripts : List Declared) (told : Option (ℕ × ℕ))
-        → result ≡ Ok told → Notes (Cut own.number acts) was now
-        → ((m : machine.Client) → stands laptop m → ReturnedStands medium scripts laptop m)
-        → ((m : machine.Client) → stands laptop m → (post : Post (Seated D) D)
-        → ReturnedStands medium scripts (record laptop { post = post }) (record m { node = changed (cut acts) m.node })
-        → after_it (record laptop { post = post }) (record m { node = changed (cut acts) m.node }))
-        → StepsTo stands after_it (Writes (cut acts)) laptop new x y true
-    writes {stands} {after_it} scripts told ok note back each =
-        goes_at call scripts stands (cut acts) (λ m h. (back m h).before) (Cut own.number acts) (λ m h. kept_then scripts m (back m h))
-        {after_it = after_it} told ok note (λ m h post there live.
-        let here = back m h in
-        each m h post (record {
-          before = record {
-            name = here.name;
-            link = here.link;
-            alive = here.alive;
-            node = there;
-            named = cut_named scripts acts m.node.durable here.named;
-          };
-          found =
-              ap begun_of (live ∙ IfOk-at_ok _ (answered_so call told ok) lives)
-              ∙ later_none (live_of was) (rw call.up at here.found);
-        }))
+  -- the machine finds how many of its acts hold, of the one that runs first there
+  finds : (own : Transaction) (rest : List Transaction) → s.running ≡ own ∷ rest → (acts : ℕ) → CanFollow s (Cut own.number acts)
+      → (last : Laptop D) (z : List ℕ)
+      → ((scripts : List Declared) (it : clients.Running) (later : List clients.Running) → own.number ≡ it.number → (m : machine.Client)
+      → Back medium scripts (it ∷ later) laptop m → StepFrom (ClientStands medium scripts) (cuts_it it acts later) m last x z tt)
+      → CutsAll medium laptop last x z
+  finds own rest ran acts follows last z each scripts [] = at_each {P = Back medium scripts []} (λ m h.
+      let none : RunKept (own ∷ rest) [] = rw (ran, h.runs) at (kept_in scripts m h.here).running in absurd none)
+  finds own rest ran acts follows last z each scripts (it ∷ later) = at_each {P = Back medium scripts (it ∷ later)} (λ m h.
+      let found = longest s m.node.durable (kept_in scripts m h.here) own.number acts follows it later h.runs in
+      joined (quiet {P = Back medium scripts (it ∷ later)} {a = acts} m (refl, found.1, refl) h) (each scripts it later found.0 m h))
 
   -- this one was cut
   record FirstCut (told : ℕ × ℕ) : Type 0 where
@@ -157,25 +115,41 @@ module _ {D : Type 0} {medium : Medium D} {laptop : Laptop D} {was now : Client 
       by [] ran is = let clash : Some told ≡ None = is.0 in absurd cc
       by (own ∷ rest) ran is = record { own = own; rest = rest; ran = ran; it = is }
 
+  -- it is cut off
+  abbrev IsCut : (scripts : List Declared) → ClientState → (acts : ℕ) → Laptop D → machine.Client → Type 0
+  IsCut scripts before acts l m = Before medium l scripts m × (m.node.durable ≡ cut acts before)
+
+  writes : (told : ℕ × ℕ) (ok : result ≡ Ok (Some told)) (scripts : List Declared) (m : machine.Client)
+      → Before medium laptop scripts m
+      → StepFrom (IsCut scripts m.node.durable (first_cut told ok).it.acts) (Writes (cut (first_cut told ok).it.acts)) m new x y true
+  writes told ok scripts m here =
+      let first = first_cut told ok in
+      let acts : ℕ = first.it.acts in
+      at_one
+      (goes_at call scripts (λ l k. Before medium l scripts k × (k ≡ m)) (cut acts) (λ k h. h.0) (Cut first.own.number acts)
+      (λ k h. kept_then first.own.number acts scripts k h.0)
+      {after_it = IsCut scripts m.node.durable acts} (Some told) ok first.it.notes (λ k h post there live.
+      let named = cut_named scripts acts k.node.durable h.0.named in
+      (search rules, ap (λ (k : machine.Client). cut acts k.node.durable) h.1)))
+      (here, refl)
+
   -- ---- by what it answered
 
   pub cut_by : (r : Result (Option (ℕ × ℕ)) Halt) → result ≡ r → CutsFirst medium laptop new x y r
   cut_by (Ok (Some told)) ok = λ last z all.
       let first = first_cut told ok in
       let same = same_Some told (first.own.number, first.it.acts) first.it.is in
-      let line : List ℕ = cut_line (transaction_name new.name told.0) told.1 in
-      finds first.own first.rest first.ran first.it.acts first.it.notes.follows last z (λ scripts it later named.
-      bind {a = true}
-      (writes first.own first.rest first.ran first.it.acts {stands = Back medium scripts (it ∷ later)}
-      {after_it = Back medium scripts later}
-      scripts (Some told) ok first.it.notes (λ m h. h.here) (λ m h post here. record {
-        here = here;
-        runs = ap (λ (running : List clients.Running). (clients.cut_by first.it.acts running m.node.durable).running) h.runs;
-      }))
-      (bind {a = tt}
-      (says (λ m h.
+      finds first.own first.rest first.ran first.it.acts first.it.notes.follows last z (λ scripts it later named m h.
+      let it_is = writes told ok scripts m h.here in
+      let back : Back medium scripts later new it_is.next = record {
+        here = it_is.stands.0;
+        runs = ap (λ (k : ClientState). k.running) it_is.stands.1
+            ∙ ap (λ (running : List clients.Running). (clients.cut_by first.it.acts running m.node.durable).running) h.runs;
+      } in
+      joined it_is (at_one (bind {a = tt}
+      (says (λ k h.
       λ i. y ++ cut_line (transaction_name (h.here.name i) ((ap (λ (t : ℕ × ℕ). t.0) same ∙ named) i)) ((same i).1)))
-      (all scripts later)))
+      (all scripts later)) back))
   cut_by (Ok None) ok = let none = left_so ok in rw (none.1, none.2) (none_cut none.0)
   cut_by (Err NoMemory) over = tt
   cut_by (Err Over) over = by s.running refl (stops (call.goes.stopped over))
@@ -184,21 +158,17 @@ module _ {D : Type 0} {medium : Medium D} {laptop : Laptop D} {was now : Client 
           → CutsOffCut running s (records_of was) (medium.may_leave (disk_of now)) → CutsAll medium laptop new x y
       by [] ran cut = absurd cut
       by (own ∷ rest) ran off =
-          finds own rest ran off.acts off.cuts_off.follows new y (λ scripts it later named.
-          bind {a = false}
-          (halts_at call scripts (Back medium scripts (it ∷ later)) (cut off.acts) (λ m h. h.here.before) (Cut own.number off.acts)
-          (λ m h. kept_then own rest ran off.acts scripts m h.here) over off.cuts_off)
-          nothing)
+          finds own rest ran off.acts off.cuts_off.follows new y (λ scripts it later named m h.
+          at_one (bind {a = false}
+          (halts_at call scripts (Back medium scripts (it ∷ later)) (cut off.acts) (λ k h. h.here) (Cut own.number off.acts)
+          (λ k h. kept_then own.number off.acts scripts k h.here) over off.cuts_off)
+          nothing) h)
 
   -- it has come back still
   pub returns_by : Returned medium laptop → (r : Result (Option (ℕ × ℕ)) Halt) → result ≡ r → OnOk r (Returned medium new)
   returns_by back (Ok None) ok = subst (Returned medium) (sym (left_so ok).1) back
   returns_by back (Ok (Some told)) ok =
-      let first = first_cut told ok in
-      let t = (writes first.own first.rest first.ran first.it.acts {stands = ReturnedStands medium back.scripts}
-      {after_it = ReturnedStands medium back.scripts} back.scripts (Some told) ok first.it.notes (λ m h. h)
-      (λ m h post here. here)).step back.machine back.stands in
-      record { scripts = back.scripts; machine = t.1; stands = t.4 }
+      record { scripts = _; machine = _; stands = (writes told ok back.scripts back.machine back.stands).stands.0 }
   returns_by back (Err halt) over = tt
 
   -- and one less runs
@@ -218,4 +188,4 @@ module _ {D : Type 0} {medium : Medium D} {laptop : Laptop D} {was now : Client 
 
   -- a server's stamps are kept
   pub cut_keeps : UnlessNoMemory (done result) (KeepsTrails laptop new)
-  cut_keeps = goes_trails call (IfOk-weaker answer _ _ (cut_trails was now s.running) cuts)
+  cut_keeps = goes_trails call (IfOk-weaker answer _ _ (cut_trails was now s.running) cuts) result refl

@@ -1,16 +1,18 @@
--- What a laptop finds among the transactions that run.
-use Rattle.std.proofs.Common.{◌≡◌, ◌==◌, ◌||◌, ℕ, Bool, true, false, cond, List, [], ◌∷◌, find, length, map, Some}
-use Rattle.std.proofs.Common.{option_map}
-use Rattle.std.proofs.Common.{refl, ap}
-use Rattle.std.specs.Prelude.{leb}
-use Rattle.iot_client.specs.Calls.{is_over_if_any}
+-- What a laptop finds among the transactions that run; and that a call that nothing refuses fails as a disk or the memory does.
+use Rattle.std.proofs.Common.{◌≡◌, ◌==◌, ◌||◌, ℕ, Bool, true, false, cond, List, [], ◌∷◌, find, length, map, Some, option_map, refl, ap}
+use Rattle.std.proofs.Common.{◌<◌, Option, None, Result, Ok, Err}
+use Rattle.std.specs.Prelude.{leb, IfErr, IsSome}
+use Rattle.iot_client.specs.Calls.{is_over_if_any, Refuses, busy, idle, unended}
 use Rattle.iot_kept.specs.Memory.{classes_of, transaction, transactions}
-use Rattle.iot_kept.specs.States.{numbered}
+use Rattle.iot_kept.specs.States.{numbered, has_number}
 use Rattle.iot_kept.specs.declared.running.Running.{Running}
 use Rattle.iot_tree.specs.declared.limits.TheConstants.{ACT_LIMIT}
-use Rattle.iot_laptop.specs.Below.{Live, Medium, Laptop, Transaction, live_numbered, may_end_if_any}
-use Rattle.iot_laptop.specs.Laptops.{Stands, live_in, state_in}
+use Rattle.iot_laptop.specs.Below.{Live, Medium, Laptop, Transaction, live_numbered, may_end_if_any, Client, ClientFault}
+use Rattle.iot_laptop.specs.Laptops.{Stands, live_in, state_in, IsFirstOf}
 use Rattle.iot_standing.proofs.StatesLaws.{found_stands}
+use Rattle.std.proofs.lemmas.Bool.{lt-ltb}
+use Rattle.iot_client.specs.Faults.{MayFail}
+use Rattle.iot_machine.specs.Clients.{most_running}
 
 abbrev pub has_tid : ℕ → Running → Bool
 has_tid number it = it.tid == number
@@ -18,13 +20,10 @@ has_tid number it = it.tid == number
 pub found_transaction : (number : ℕ) (items : List Running)
     → option_map transaction (find (has_tid number) items) ≡ numbered number (transactions items)
 found_transaction number [] = refl
-found_transaction number (it ∷ items) = by_test (found_transaction number items) (has_tid number it)
-  where
-    by_test : option_map transaction (find (has_tid number) items) ≡ numbered number (transactions items) → (b : Bool)
-        → option_map transaction (cond b (Some it) (find (has_tid number) items))
-        ≡ cond b (Some (transaction it)) (numbered number (transactions items))
-    by_test rest true = refl
-    by_test rest false = rest
+found_transaction number (it ∷ items) =
+    elim (has_tid number it) as (λ b. option_map transaction (cond b (Some it) (find (has_tid number) items))
+    ≡ cond b (Some (transaction it)) (numbered number (transactions items)))
+    [ true ↦ refl | false ↦ found_transaction number items ]
 
 pub found_class : (number : ℕ) (items : List Running) (lives : List Live) → classes_of items ≡ map (λ (live : Live). live.first) lives
     → option_map (λ (it : Running). it.first) (find (has_tid number) items)
@@ -34,14 +33,9 @@ found_class number (it ∷ items) [] same = absurd cc
 found_class number (it ∷ items) (live ∷ lives) same =
     let here : it.first ≡ live.first = cc in
     let later : classes_of items ≡ map (λ (live : Live). live.first) lives = cc in
-    by_test here (found_class number items lives later) (has_tid number it)
-  where
-    by_test : it.first ≡ live.first → option_map (λ (it : Running). it.first) (find (has_tid number) items)
-        ≡ option_map (λ (live : Live). live.first) (live_numbered number (transactions items) lives) → (b : Bool)
-        → option_map (λ (it : Running). it.first) (cond b (Some it) (find (has_tid number) items))
-        ≡ option_map (λ (live : Live). live.first) (cond b (Some live) (live_numbered number (transactions items) lives))
-    by_test here rest true = ap Some here
-    by_test here rest false = rest
+    elim (has_tid number it) as (λ b. option_map (λ (it : Running). it.first) (cond b (Some it) (find (has_tid number) items))
+    ≡ option_map (λ (live : Live). live.first) (cond b (Some live) (live_numbered number (transactions items) lives)))
+    [ true ↦ ap Some here | false ↦ found_class number items lives later ]
 
 -- ---- whether one may end
 
@@ -56,3 +50,35 @@ full_in {laptop = laptop} number own stands is over =
     let runs = found_stands (state_in laptop) (live_in laptop) m.first m.node.durable stands.stands.state number own is in
     rw (is, runs.lives, runs.stands.code)
     (ap (λ (b : Bool). b || leb ACT_LIMIT (length own.acts)) (rw (is, runs.lives, runs.stands.code) at over))
+
+-- ---- calls that nothing refuses
+
+pub unrefused : {D T : Type 0} (refusal : Option ClientFault) (old new : Client D) (answer : Result T ClientFault) → refusal ≡ None
+    → Refuses refusal old new answer → IfErr answer MayFail
+unrefused (Some fault) old new answer none refuses = absurd cc
+unrefused None old new (Ok value) none refuses = tt
+unrefused None old new (Err fault) none refuses = refuses
+
+-- fewer run than may
+pub not_busy : (running : List Transaction) → length running < most_running → busy running ≡ None
+not_busy running room = rw (lt-ltb (length running) most_running room) refl
+
+-- the one that is meant runs
+pub not_idle : (it : Option Transaction) → IsSome it → idle it ≡ None
+not_idle None runs = absurd cc
+not_idle (Some it) runs = refl
+
+pub first_runs : (number : ℕ) (running : List Transaction) (lives : List Live) → IsFirstOf (live_numbered number running lives)
+    → idle (numbered number running) ≡ None
+first_runs number [] lives first = absurd first
+first_runs number (it ∷ running) [] first = absurd first
+first_runs number (it ∷ running) (live ∷ lives) first =
+    (elim (has_number number it) as (λ b. IsFirstOf (cond b (Some live) (live_numbered number running lives))
+    → idle (cond b (Some it) (numbered number running)) ≡ None)
+    [ true ↦ λ first. refl | false ↦ first_runs number running lives ]) first
+
+-- and may end
+pub not_unended : (it : Option Transaction) (live : Option Live) → may_end_if_any it live ≡ true
+    → unended it (may_end_if_any it live) ≡ None
+not_unended None live may = absurd cc
+not_unended (Some it) live may = rw may refl

@@ -1,12 +1,7 @@
 pub mod CallsLaws
-pub mod ClassesLaws
 pub mod CuttingLaws
-pub mod EndsLaws
 pub mod FindingLaws
 pub mod NodesLaws
-pub mod RefusalsLaws
 pub mod RestartLaws
 pub mod RunningLaws
 pub mod SeatsLaws
-pub mod StepsLaws
-pub mod TrailsLaws

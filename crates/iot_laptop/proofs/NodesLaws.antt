@@ -1,18 +1,21 @@
--- What is known of a client by its node.
-use Rattle.std.proofs.Common.{◌≡◌, ℕ, Bool, true, false, List, refl, sym, ap, subst, ◌∙◌, rules}
-use Rattle.iot_laptop.specs.Below.{Client, Medium, Declared, ClientState, Call, At, Node}
-use Rattle.iot_laptop.specs.Below.{Possibly, PostStands, UpStands, StepsFrom, StepsTo, Post, Up, Down, Between, no_text, Laptop, Seated}
+-- What is known of a client by its node, also after a call that changes nothing but classes.
+use Rattle.std.proofs.Common.{◌≡◌, ℕ, Bool, true, false, List, [], refl, sym, ap, subst, ◌∙◌, rules, map, Some}
+use Rattle.iot_laptop.specs.Below.{Client, Medium, Declared, ClientState, Call, At, Node, Possibly, PostStands, UpStands, StepsFrom}
+use Rattle.iot_laptop.specs.Below.{StepsTo, Post, Up, Down, Between, no_text, Laptop, Seated, IsTied, State, counts_on, is_on, live_of}
+use Rattle.iot_laptop.specs.Below.{second_class, state_of}
 use Rattle.iot_machine.proofs.PossiblyLaws.{possibly_sure}
 use Rattle.iot_node.proofs.PostsLaws.{on_is}
-use Rattle.iot_machine.specs.Machine as machine
 use Rattle.iot_standing.specs.Kept.{StateKept}
 use Rattle.iot_laptop.specs.Laptops.{LaptopStands, FallenStands, ClientStands, awake, fallen, Stands, StandsAnyhow, IsLent, state_by}
-use Rattle.iot_laptop.specs.Laptops.{live_by, is_alive, state_in, live_in, NodeStands}
+use Rattle.iot_laptop.specs.Laptops.{live_by, is_alive, state_in, live_in, NodeStands, Reclassed, all_second, disk_by, stamps_by}
 use Rattle.iot_standing.specs.States.{StateStands}
 use Rattle.iot_standing.specs.Scripts.{AreNamed}
-use Rattle.iot_laptop.specs.Seats.{seating}
-use Rattle.iot_standing.proofs.KeptLaws.{stands_with}
-use Rattle.iot_standing.proofs.RunsLaws.{are_begun, live_with}
+use Rattle.iot_laptop.specs.Seats.{begun_of, seating}
+use Rattle.iot_laptop.proofs.SeatsLaws.{known_again, none_known}
+use Rattle.iot_standing.proofs.KeptLaws.{idle_runs, stands_with}
+use Rattle.iot_standing.proofs.RunsLaws.{are_begun, live_with, lives_all_second, lives_then}
+use Rattle.iot_client.specs.Calls.{ChangesClasses}
+use Rattle.iot_machine.specs.Machine as machine
 
 pub not_both : true ≡ false → ⊥
 not_both e = cc
@@ -33,6 +36,24 @@ keeper_of medium place Between node here up = absurd here
 pub kept_up : {D : Type 0} (medium : Medium D) (place : ℕ) (post : Post (Seated D) D) (node : Node ClientState)
     → PostStands (seating medium place) medium no_text post node → node.alive ≡ true → StateKept (state_by post) node.durable
 kept_up medium place post node here up = let it = keeper_of medium place post node here up in rw it.1 it.2.stands.kept
+
+module _ {D : Type 0} (medium : Medium D) (place : ℕ) (post : Post (Seated D) D) (node : Node ClientState)
+    (here : PostStands (seating medium place) medium no_text post node) (up : node.alive ≡ true) (first : List ℕ) where
+  -- what is known besides of one that is alive, by what was begun
+  pub known_up : begun_of (live_by post) ≡ live_with first node.durable.running → live_by post ≡ live_with first node.durable.running
+  known_up begun =
+      let it = keeper_of medium place post node here up in
+      rw it.1
+      (known_again it.0.client it.2.stands.tied first node.durable.running it.2.stands.kept.running (rw it.1 at begun))
+
+  -- nothing is known if nothing runs
+  pub none_up : (state_by post).running ≡ [] → live_by post ≡ live_with first node.durable.running
+  none_up none =
+      let it = keeper_of medium place post node here up in
+      let live : live_by post ≡ [] =
+      rw it.1
+      (none_known it.0.client it.2.stands.tied (sym (ap (λ (p : Post (Seated D) D). (state_by p).running) it.1) ∙ none)) in
+      live ∙ idle_runs first (state_by post) node.durable none (kept_up medium place post node here up)
 
 module _ {D : Type 0} (medium : Medium D) where
   module _ (scripts : List Declared) (laptop : Laptop D) (m : machine.Client) where
@@ -136,11 +157,50 @@ pub at_node : {D A : Type 0} (medium : Medium D) (laptop : Laptop D) (post : Pos
     → StepsTo before after (λ m. At machine.node (call (names m)) m) laptop (record laptop { post = post }) x y a
 at_node medium laptop post call names x y a it each = record {
   step = λ m here.
-      let s = (it m here).1 in (
-        s.0,
-        record m { node = s.1 },
-        s.2,
-        record { inner = s.1; step = subst (λ (name : List ℕ). call name m.node s.0 a s.1) (it m here).0 s.3; is = refl },
-        each m here s.1 s.0 s.3 s.4,
-      );
+      let s = (it m here).1 in
+      let step = subst (λ (name : List ℕ). call name m.node s.0 a s.1) (it m here).0 s.3 in
+      (s.0, record m { node = s.1 }, s.2, record { inner = s.1; step = step; is = refl }, each m here s.1 s.0 s.3 s.4);
 }
+
+-- ---- a call that changes nothing but classes
+
+-- it is the keeper of its node still
+seat_again : {D : Type 0} {medium : Medium D} (place : ℕ) (was now : Client D) (node : Node ClientState) → ChangesClasses was now
+    → IsTied medium now → UpStands (seating medium place) medium no_text (record { client = was }) node
+    → UpStands (seating medium place) medium no_text (record { client = now }) node
+seat_again {medium = medium} place was now node same tied it =
+    let kept = subst (λ (s : State). StateKept s node.durable) (sym same.state) it.stands.kept in
+    let counts = ap (counts_on medium) same.disk ∙ it.counts in
+    record { alive = it.alive; sure = it.sure; counts = counts; count = it.count; stands = search rules }
+
+-- so it stands for each client that has those of first class that it has
+pub reclasses : {D : Type 0} {medium : Medium D} {laptop : Laptop D} {was now : Client D} → laptop.post ≡ Up (record { client = was })
+    → ChangesClasses was now → IsTied medium now → (change : machine.Client → machine.Client) (first : machine.Client → List ℕ)
+    → ((m : machine.Client) → change m ≡ record m { first = first m })
+    → ((scripts : List Declared) (m : machine.Client) → LaptopStands medium scripts laptop m
+    → live_of now ≡ live_with (first m) m.node.durable.running)
+    → Reclassed medium change laptop (record laptop { post = Up (record { client = now }) })
+reclasses {D} {medium} {laptop} {was} {now} up same tied change first is lives = record {
+  place = refl;
+  state = same.state ∙ sym (ap state_by up);
+  stamps = same.stamps ∙ sym (ap stamps_by up);
+  link = refl;
+  disk = ap Some same.disk ∙ sym (ap disk_by up);
+  alive = sym (ap is_on up);
+  stands = λ scripts m here.
+      let post : Post (Seated D) D = Up (record { client = now }) in
+      let there : Posted medium laptop post m.node =
+      seat_again laptop.place was now m.node same tied (up_stands medium scripts laptop m was up here) in
+      subst (LaptopStands medium scripts (record laptop { post = post })) (sym (is m))
+      (awake_at medium scripts laptop m here.name here.link post m.node there here.alive (first m) (lives scripts m here) here.named);
+}
+
+-- all that run are second class
+pub all_reclassed : {D : Type 0} (medium : Medium D) (laptop : Laptop D) (was now : Client D) → laptop.post ≡ Up (record { client = was })
+    → ChangesClasses was now → IsTied medium now → live_of now ≡ map second_class (live_of was)
+    → Reclassed medium all_second laptop (record laptop { post = Up (record { client = now }) })
+all_reclassed medium laptop was now up same tied second =
+    reclasses up same tied all_second (λ m. []) (λ m. refl) (λ scripts m here.
+    let stands : StateStands (state_of was) (live_of was) m.first m.node.durable = rw up at here.state in
+    second ∙ ap (map second_class) (lives_then (state_of was).running (live_of was) m.first m.node.durable.running stands.running)
+    ∙ lives_all_second m.first m.node.durable.running)

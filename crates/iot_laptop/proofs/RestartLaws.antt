@@ -1,22 +1,21 @@
 -- What befalls a laptop: its link, and a start, a crash, a restart and an armed disk of its node.
 use Rattle.std.proofs.lemmas.Result.{on_ok_weaker}
-use Rattle.std.proofs.Common.{◌≡◌, ◌⊎◌, ℕ, Bool, true, false, List, [], ◌∷◌, ◌++◌, map, Option, Some, None, Result, inl, inr, refl}
-use Rattle.std.proofs.Common.{sym, ap, subst, ◌∙◌, codes, if◌then◌else◌, arith, rules}
+use Rattle.std.proofs.Common.{◌≡◌, ◌≢◌, ◌⊎◌, ℕ, Bool, true, false, List, [], ◌++◌, Option, None, Result, inl, inr, refl}
+use Rattle.std.proofs.Common.{sym, ap, subst, ◌∙◌, codes, arith, rules}
 use Rattle.std.specs.Prelude.{OnOk}
 use Rattle.std.proofs.lemmas.List.{append-nil}
 use Rattle.std.proofs.lemmas.Option.{same_Some}
-use Rattle.iot_client.specs.Calls.{ChangesClasses}
-use Rattle.iot_client.specs.Ties.{AreRuns, classes_in}
 use Rattle.iot_kept.specs.Rules.{header}
 use Rattle.iot_slots.specs.Decoding.{Decoded, NotStarted, decoded, state_of as encoded_in}
-use Rattle.iot_laptop.specs.Below.{IsTree, Transaction, opening, second_class, live_of, state_of, IsTied}
+use Rattle.iot_laptop.specs.Below.{IsTree, opening}
 use Rattle.iot_disk.specs.Disk.{Storing}
-use Rattle.iot_laptop.specs.Below.{Client, Medium, At, Declared, ClientState}
+use Rattle.iot_laptop.specs.Below.{Medium, At, Declared, ClientState}
 use Rattle.iot_laptop.specs.Below.{new_client, Node, unopened, Refines, Possibly, OpensNode, stopped_line, KeepsDisk}
-use Rattle.iot_laptop.specs.Below.{counts_on, IsEmpty, is_on, PostStands, CameIf, StepsTo, Post, Up, Down}
+use Rattle.iot_laptop.specs.Below.{counts_on, IsEmpty, is_on, PostStands, CameIf, Post, Down}
 use Rattle.iot_laptop.specs.Below.{no_text, Laptop, Seated, Passage, FarDir}
 use Rattle.iot_link.specs.Links.{LinkState, after_exchange, connected}
-use Rattle.iot_machine.proofs.StepsLaws.{bind, asks, says_this, nothing}
+use Rattle.iot_machine.proofs.StepsLaws.{at_each, at_one, bind, asks, does, joined, quiet, says_this}
+use Rattle.iot_machine.specs.Refining.{StepFrom}
 use Rattle.iot_count.specs.Counts.{Rose}
 use Rattle.iot_machine.specs.Calls.{Asks, Does, Part, Then, goes_on}
 use Rattle.iot_machine.specs.Stops.{ComesBack, Crashes, ArmsDisk}
@@ -25,37 +24,28 @@ use Rattle.iot_machine.proofs.PossiblyLaws.{SameStates, comes_within, possibly_s
 use Rattle.iot_node.specs.Posts.{IsStanding, Ready, words_of}
 use Rattle.iot_node.specs.declared.comeback.Comeback.TheVariants.{Restart}
 use Rattle.iot_machine.specs.Events.{CutsOff, RestartsClient, Disconnects, CrashesClient, ArmsClient}
-use Rattle.iot_link.specs.declared.passages.Passage.TheVariants.{Away, RequestLost, ReplyLost, Both}
-use Rattle.iot_machine.proofs.StepsLaws.{does}
+use Rattle.iot_link.specs.declared.passages.Passage.TheVariants.{Away, Both}
 use Rattle.iot_node.proofs.PostsLaws.{on_is}
 use Rattle.iot_disk.specs.declared.disk.Pick.{Pick}
 use Rattle.iot_tree.proofs.RowLaws.{root_rows, root_map}
 use Rattle.iot_judging.proofs.SpelledTreesLaws.{far_root_spelled}
 use Rattle.iot_machine.specs.Clients as clients
 use Rattle.iot_machine.specs.Machine as machine
-use Rattle.iot_node.specs.Posts as posts
 use Rattle.iot_link.specs.Links as links
-use Rattle.iot_laptop.specs.Calls.{ReturnedStands, Returned, Came, CutsAll}
+use Rattle.iot_laptop.specs.Calls.{Before, Returned, Came, CutsAll}
 use Rattle.iot_standing.specs.Kept.{RunKept}
-use Rattle.iot_laptop.specs.Laptops.{LaptopStands, FallenStands, ClientStands, awake, StandsAnyhow, is_alive, disk_by, live_by, all_second}
+use Rattle.iot_laptop.specs.Laptops.{LaptopStands, FallenStands, ClientStands, awake, StandsAnyhow, is_alive, disk_by, all_second}
 use Rattle.iot_laptop.specs.Laptops.{state_in, live_in, state_by, fallen, Stands, Relinked, Reclassed, IsCutLink, after_passage, IsUnopened}
-use Rattle.iot_laptop.specs.Laptops.{unopened_laptop}
+use Rattle.iot_laptop.specs.Laptops.{NodeStands, unopened_laptop}
 use Rattle.iot_standing.specs.Scripts.{AreNamed}
-use Rattle.iot_laptop.specs.Seats.{seating, Besides, begun_of, besides, none_besides, IsClientImage}
-use Rattle.iot_standing.proofs.KeptLaws.{idle_runs}
-use Rattle.iot_standing.proofs.RunsLaws.{live_with, lives_then, none_live}
-use Rattle.iot_laptop.proofs.CallsLaws.{keeps_post, quietly}
-use Rattle.iot_laptop.proofs.ClassesLaws.{all_reclassed}
-use Rattle.iot_laptop.proofs.NodesLaws.{Posted, not_both, keeper_of, kept_up, node_stands, fallen_stands, awake_stands, fallen_at, at_node}
-use Rattle.iot_laptop.proofs.NodesLaws.{alive_stands, stands_at}
+use Rattle.iot_laptop.specs.Seats.{seating, Besides, begun_of, IsClientImage}
+use Rattle.iot_standing.proofs.RunsLaws.{live_with, lives_then}
+use Rattle.iot_laptop.proofs.CallsLaws.{keeps_post}
+use Rattle.iot_laptop.proofs.NodesLaws.{Posted, not_both, kept_up, known_up, none_up, node_stands, fallen_stands, awake_stands, fallen_at}
+use Rattle.iot_laptop.proofs.NodesLaws.{alive_stands, at_node, stands_at}
 use Rattle.iot_laptop.proofs.NodesLaws.{same_name, same_link, may_be_named}
-use Rattle.iot_laptop.proofs.SeatsLaws.{besides_by, besides_fresh, begun_all, known_again}
+use Rattle.iot_laptop.proofs.SeatsLaws.{besides_by, begun_all, none_runs}
 use Rattle.iot_laptop.specs.Alone.{OpensClient}
-
-pub not_through : (p : Passage) → (p ≡ Away) ⊎ ((p ≡ RequestLost) ⊎ (p ≡ ReplyLost)) → p ≡ Both → ⊥
-not_through p (inl is) both = cc
-not_through p (inr (inl is)) both = cc
-not_through p (inr (inr is)) both = cc
 
 module _ {D : Type 0} (medium : Medium D) (laptop : Laptop D) where
   -- ---- another link
@@ -89,10 +79,9 @@ module _ {D : Type 0} (medium : Medium D) (laptop : Laptop D) where
   pub disconnects : {E : Type 0} (r : Result (Unit {0}) E) (mid : Laptop D) (x y : List ℕ) → IsCutLink medium laptop mid
       → OnOk r (y ≡ x ++ disconnect_line mid.name)
       → OnOk r ((scripts : List Declared) → Refines (ClientStands medium scripts) Disconnects laptop mid x y tt)
-  disconnects r mid x y cut = on_ok_weaker r (λ wrote scripts. does (λ m here. (
-    wrote ∙ ap (λ (n : List ℕ). x ++ disconnect_line n) (cut.name ∙ same_name medium scripts laptop m here),
-    cut.stands scripts m here,
-  )))
+  disconnects r mid x y cut = on_ok_weaker r (λ wrote scripts. does (λ m here.
+      let there = cut.stands scripts m here in
+      (wrote ∙ ap (λ (n : List ℕ). x ++ disconnect_line n) (same_name medium scripts mid (machine.cut_off m) there), there)))
 
   -- ---- an exchange that does not get through
 
@@ -110,56 +99,26 @@ module _ {D : Type 0} (medium : Medium D) (laptop : Laptop D) where
   }
 
   -- so it is after any that did not get through
-  pub is_over : (p : Passage) (link : LinkState) (new : Laptop D) → link ≡ after_exchange p laptop.link
-      → (p ≡ Away) ⊎ ((p ≡ RequestLost) ⊎ (p ≡ ReplyLost))
+  pub is_over : (p : Passage) (link : LinkState) (new : Laptop D) → link ≡ after_exchange p laptop.link → p ≢ Both
       → Reclassed medium all_second (record laptop { link = link }) new → Relinked medium (after_passage p) laptop new
   is_over Away link new is lost second = over_second link new (λ m same. λ i. record m { link = (is ∙ same) i; first = [] }) second
-  is_over Both link new is lost second = absurd (not_through Both lost refl)
+  is_over Both link new is lost second = absurd (lost refl)
   is_over p link new is lost second = over_second link new (λ m same. λ i. record m { link = is i; first = [] }) second
 
--- ---- its link is cut
-
--- over another link, with all that run second class
-pub cuts_live : {D : Type 0} (medium : Medium D) (laptop : Laptop D) (was now : Client D) (link : LinkState)
-    → laptop.post ≡ Up (record { client = was }) → link ≡ connected false laptop.link → ChangesClasses was now → IsTied medium now
-    → live_of now ≡ map second_class (live_of was)
-    → IsCutLink medium laptop (record laptop { link = link; post = Up (record { client = now }) })
-cuts_live medium laptop was now link up is same tied second =
-    let it : Reclassed medium all_second (record laptop { link = link })
-    (record laptop { link = link; post = Up (record { client = now }) }) =
-    all_reclassed medium (record laptop { link = link }) was now up same tied second in
-    let over : Relinked medium machine.cut_off laptop (record laptop { link = link; post = Up (record { client = now }) }) =
-    over_second medium laptop link (record laptop { link = link; post = Up (record { client = now }) })
-    (λ m same. λ i. record m { link = (is ∙ ap (connected false) same) i; first = [] }) it in
-    record {
-      place = refl;
-      name = refl;
-      stamps = it.stamps;
-      disk = it.disk;
-      stands = λ scripts m here. awake (over.stands scripts m (awake_stands medium scripts laptop m (ap is_on up) here));
-    }
+  -- so it is if its link is cut
+  pub cuts_live : (link : LinkState) (new : Laptop D) → link ≡ connected false laptop.link → is_alive laptop ≡ true
+      → Reclassed medium all_second (record laptop { link = link }) new → IsCutLink medium laptop new
+  cuts_live link new is up second =
+      let over : Relinked medium machine.cut_off laptop new =
+      over_second link new (λ m same. λ i. record m { link = (is ∙ ap (connected false) same) i; first = [] }) second in
+      record {
+        place = second.place;
+        stamps = second.stamps;
+        disk = second.disk;
+        stands = λ scripts m here. awake (over.stands scripts m (awake_stands medium scripts laptop m up here));
+      }
 
 -- ---- its node
-
-module _ {D : Type 0} (medium : Medium D) (place : ℕ) (post : Post (Seated D) D) (node : Node ClientState)
-    (here : PostStands (seating medium place) medium no_text post node) (up : node.alive ≡ true) where
-  -- what is known besides of one that is alive, by what was begun
-  known_up : (first : List ℕ) → begun_of (live_by post) ≡ live_with first node.durable.running
-      → live_by post ≡ live_with first node.durable.running
-  known_up first begun =
-      let it = keeper_of medium place post node here up in
-      rw it.1
-      (known_again it.0.client it.2.stands.tied first node.durable.running it.2.stands.kept.running
-      (subst (λ (p : Post (Seated D) D). begun_of (live_by p) ≡ live_with first node.durable.running) it.1 begun))
-
-  -- nothing is known of what runs if nothing runs
-  none_up : (state_by post).running ≡ [] → live_by post ≡ []
-  none_up none =
-      let it = keeper_of medium place post node here up in
-      let idle : (state_of it.0.client).running ≡ [] = sym (ap (λ (p : Post (Seated D) D). (state_by p).running) it.1) ∙ none in
-      rw it.1
-      (none_live (classes_in it.0.client) it.0.client.interpreters.items
-      (subst (λ (running : List Transaction). AreRuns running it.0.client.interpreters.items) idle it.2.stands.tied.runs))
 
 module _ {D : Type 0} (medium : Medium D) (laptop : Laptop D) (post : Post (Seated D) D) where
   abbrev next : Laptop D
@@ -201,12 +160,9 @@ module _ {D : Type 0} (medium : Medium D) (laptop : Laptop D) (post : Post (Seat
 -- ---- a new laptop
 
 -- an empty disk is that of a client that knows nothing
-nothing_started : decoded header [] ≡ NotStarted
-unfolding decoded
-nothing_started = refl
-
 empty_decoded : (bytes : List ℕ) → bytes ≡ [] → decoded header bytes ≡ NotStarted
-empty_decoded bytes none = ap (decoded header) none ∙ nothing_started
+unfolding decoded
+empty_decoded bytes none = ap (decoded header) none
 
 empty_image : (bytes : List ℕ) → bytes ≡ [] → IsClientImage bytes 0 new_client
 empty_image bytes none = record {
@@ -226,30 +182,16 @@ module _ {D : Type 0} (medium : Medium D) (disk : D) (empty : IsEmpty medium dis
     alive = refl;
     counts = refl;
     count = 0;
-    holds = record {
-      sure = refl;
-      each = record { each = λ image left. empty_image image (empty.synced.is image left ∙ empty.empty) };
-    };
+    holds = record { sure = refl; each = record { each = λ image left. empty_image image (empty.synced.is image left ∙ empty.empty) } };
   }
 
   pub new_stands : (name : List ℕ) (link : LinkState) → link ≡ links.opened → (scripts : List Declared)
       → FallenStands medium scripts
       (record { name = name; place = place; post = Down (record { disk = disk; doubt = None }); link = link })
       (unopened_laptop name (counts_on medium disk))
-  new_stands name link linked scripts = record {
-    name = refl;
-    link = linked;
-    alive = refl;
-    node = new_node;
-    named = record { is = record { items = tt; running = tt }; may_be = tt };
-  }
+  new_stands name link linked scripts = search (rules, new_node)
 
 -- ---- it starts for the first time
-
--- nothing runs
-none_runs : (running : List Transaction) → RunKept running [] → running ≡ []
-none_runs [] kept = refl
-none_runs (it ∷ running) kept = absurd kept
 
 module _ {D : Type 0} (medium : Medium D) (laptop : Laptop D) (new : IsUnopened medium laptop) where
   pub opens_standing : IsStanding (seating medium laptop.place) medium laptop.post
@@ -282,9 +224,8 @@ module _ {D : Type 0} (medium : Medium D) (laptop : Laptop D) (new : IsUnopened 
         (λ m here n text step stands.
         stands_at medium scripts laptop m (same_name medium scripts laptop m here) (same_link medium scripts laptop m here) post n stands
         (λ up.
-        let idle = started_idle (sym (on_is (seating medium laptop.place) medium no_text post n stands) ∙ up) in
-        none_up medium laptop.place post n stands up idle
-        ∙ idle_runs m.first (state_by post) n.durable idle (kept_up medium laptop.place post n stands up))
+        none_up medium laptop.place post n stands up m.first
+        (started_idle (sym (on_is (seating medium laptop.place) medium no_text post n stands) ∙ up)))
         (possibly_same m.node n (opens_states laptop.name m.node n text on step) (may_be_named medium scripts laptop m here))))
 
 -- ---- a restart
@@ -295,7 +236,6 @@ pub record CameBack {D : Type 0} (medium : Medium D) (old : Laptop D) (post : Po
   pub off : is_alive old ≡ false
   pub steps : Refines (Posted medium old) (ComesBack old.name no_text) old.post post x y on
   pub is : is_on post ≡ on
-  pub live : posts.live_of besides post ≡ (if on then Some none_besides else None)
   pub came : (node : Node ClientState) → Posted medium old old.post node
       → CameIf (seating medium old.place) medium on old.post (words_of Restart old.name) x y node
 
@@ -315,93 +255,74 @@ module _ {D : Type 0} (medium : Medium D) (old : Laptop D) where
     abbrev mid : Laptop D
     mid = record old { post = post }
 
-    alive_is : {on : Bool} → CameBack medium old post x y on → (n : Node ClientState) → Posted medium old post n → n.alive ≡ on
-    alive_is back n stands = on_is (seating medium old.place) medium no_text post n stands ∙ back.is
+    -- its node came back over this post, or it did not
+    record Turned (scripts : List Declared) (on : Bool) (laptop : Laptop D) (m : machine.Client) : Type 0 where
+      name : laptop.name ≡ m.name
+      link : laptop.link ≡ m.link
+      alive : m.node.alive ≡ on
+      node : NodeStands medium laptop m
+      named : Possibly (AreNamed scripts) m.node
 
-    -- its node is back, or has stopped again
-    steps_back : {on : Bool} → CameBack medium old post x y on → (scripts : List Declared) {stands : Laptop D → machine.Client → Type 0}
-        → ((m : machine.Client) → FallenStands medium scripts old m → (n : Node ClientState) → Posted medium old post n
-        → Possibly (AreNamed scripts) n → stands mid (record m { node = n }))
-        → StepsTo (FallenStands medium scripts) stands (At machine.node (ComesBack old.name no_text)) old mid x y on
-    steps_back {on} back scripts each =
-        at_node medium old post (λ name. ComesBack name no_text) (λ _. old.name) x y on
-        (λ m down. (refl, back.steps.step m.node down.node))
-        (λ m down n text step there.
-        each m down n there ((comes_within old.name no_text m.node n text on step).each (AreNamed scripts) down.named))
+    module _ {on : Bool} (back : CameBack medium old post x y on) (scripts : List Declared) where
+      turns : (m : machine.Client) → FallenStands medium scripts old m
+          → StepFrom (Turned scripts on) (At machine.node (ComesBack old.name no_text)) m mid x y on
+      turns m down = at_one {P = FallenStands medium scripts}
+          (at_node medium old post (λ name. ComesBack name no_text) (λ _. old.name) x y on
+          (λ m down. (refl, back.steps.step m.node down.node))
+          (λ m down n text step there.
+          let alive : n.alive ≡ on = on_is (seating medium old.place) medium no_text post n there ∙ back.is in
+          let named = (comes_within old.name no_text m.node n text on step).each (AreNamed scripts) down.named in search rules))
+          down
 
-    -- what it does then makes the whole of its restart
-    comes : {on : Bool} → CameBack medium old post x y on → (scripts : List Declared) {stands : Laptop D → machine.Client → Type 0}
-        → StepsTo (FallenStands medium scripts) stands (At machine.node (ComesBack old.name no_text)) old mid x y on
-        → (new : Laptop D) (z : List ℕ) → StepsTo stands (ClientStands medium scripts) (goes_on CutsOff on) mid new y z tt
-        → Refines (ClientStands medium scripts) RestartsClient old new x z tt
-    comes {on} back scripts first new z rest =
-        let whole : StepsTo (FallenStands medium scripts) (ClientStands medium scripts) RestartsClient old new x z tt =
-        bind {a = false} (asks (λ m down. sym down.alive))
-        (bind {a = old.name} (asks (λ m down. down.name)) (bind {a = on} first rest)) in
-        record { step = λ m here. whole.step m (fallen_stands medium scripts old m back.off here) }
+      -- what it does then makes the whole of its restart
+      restarts : (new : Laptop D) (z : List ℕ)
+          → ((k : machine.Client) → Turned scripts on mid k → StepFrom (ClientStands medium scripts) (goes_on CutsOff on) k new y z tt)
+          → Refines (ClientStands medium scripts) RestartsClient old new x z tt
+      restarts new z rest = at_each (λ m here.
+          let down = fallen_stands medium scripts old m back.off here in
+          let s = turns m down in
+          joined (quiet {P = FallenStands medium scripts} {a = false} m (refl, sym down.alive, refl) down)
+          (joined (quiet {P = FallenStands medium scripts} {a = old.name} m (refl, down.name, refl) down)
+          (joined s (rest s.next s.stands))))
 
     -- ---- it has stopped again
 
-    module _ (back : CameBack medium old post x y false) where
-      pub stops_again : (scripts : List Declared) → Refines (ClientStands medium scripts) RestartsClient old mid x y tt
-      stops_again scripts =
-          comes back scripts (steps_back back scripts (λ m down n stands named.
-          fallen_at medium scripts old m down.name down.link post n stands (alive_is back n stands) named)) mid y (nothing)
+    module _ (back : CameBack medium old post x y false) (scripts : List Declared) where
+      pub stops_again : Refines (ClientStands medium scripts) RestartsClient old mid x y tt
+      stops_again = restarts back scripts mid y (λ k there. quiet k (refl, refl) (fallen (search rules)))
 
-      pub came_again : (scripts : List Declared) (m : machine.Client) → ClientStands medium scripts old m → Came medium old x y m
-      came_again scripts m here =
+      pub came_again : (m : machine.Client) → ClientStands medium scripts old m → Came medium old x y m
+      came_again m here =
           let s = back.steps.step m.node (fallen_stands medium scripts old m back.off here).node in
           let said : s.0 ≡ stopped_line old.name = elim s.3 [ inl it ↦ absurd (not_both (sym it.0)) | inr stop ↦ stop.0 ] in
-          record {
-            on = false;
-            mid = y;
-            rest = [];
-            came = tt;
-            whole = sym (append-nil y);
-            stopped = λ _. s.2 ∙ ap (λ (t : List ℕ). x ++ t) said;
-          }
+          record { on = false; mid = y; rest = []; came = tt; whole = sym (append-nil y); stopped = λ _. s.2 ∙ ap (λ t. x ++ t) said }
 
     -- ---- it is back
 
     module _ (back : CameBack medium old post x y true) where
-      returns : (scripts : List Declared)
-          → StepsTo (FallenStands medium scripts) (ReturnedStands medium scripts) (At machine.node (ComesBack old.name no_text)) old mid x y
-          true
-      returns scripts = steps_back back scripts (λ m down n stands named.
-          let alive : n.alive ≡ true = alive_is back n stands in
-          record {
-            before = record { name = down.name; link = down.link; alive = alive; node = stands; named = named.is };
-            found = ap (λ (b : Besides). b.begun) (besides_fresh post true back.live);
-          })
+      returned : (scripts : List Declared) (k : machine.Client) → Turned scripts true mid k → Before medium mid scripts k
+      returned scripts k it =
+          record { name = it.name; link = it.link; alive = it.alive; node = it.node; named = it.named.is }
 
       pub is_back : StandsAnyhow medium old → Returned medium mid
       is_back stands =
           let down = fallen_stands medium stands.scripts old stands.machine back.off stands.stands in
-          record { scripts = stands.scripts; machine = _; stands = ((returns stands.scripts).step stands.machine down).4 }
+          record { scripts = _; machine = _; stands = returned stands.scripts _ (turns back stands.scripts stands.machine down).stands }
 
-      module _ (new : Laptop D) (z : List ℕ) (cut : CutsAll medium mid new y z) where
-        all_cut : (scripts : List Declared) → StepsTo (ReturnedStands medium scripts) (ClientStands medium scripts) CutsOff mid new y z tt
-        all_cut scripts = record {
-          step = λ m here.
-              let t = (cut scripts m.node.durable.running).step m (record { here = here; runs = refl }) in
-              (t.0, t.1, t.2, quietly m.node.durable.running m (refl, refl, refl) t.3, t.4);
-        }
+      module _ (new : Laptop D) (z : List ℕ) (cut : CutsAll medium mid new y z) (scripts : List Declared) where
+        all_cut : (k : machine.Client) → Turned scripts true mid k → StepFrom (ClientStands medium scripts) CutsOff k new y z tt
+        all_cut k there =
+            joined (quiet {P = Turned scripts true} {a = k.node.durable.running} k (refl, refl, refl) there)
+            (at_one (cut scripts k.node.durable.running) (record { here = returned scripts k there; runs = refl }))
 
-        pub comes_back : (scripts : List Declared) → Refines (ClientStands medium scripts) RestartsClient old new x z tt
-        comes_back scripts = comes back scripts (returns scripts) new z (all_cut scripts)
+        pub comes_back : Refines (ClientStands medium scripts) RestartsClient old new x z tt
+        comes_back = restarts back scripts new z all_cut
 
-        pub came_back : (scripts : List Declared) (m : machine.Client) → ClientStands medium scripts old m → Came medium old x z m
-        came_back scripts m here =
+        pub came_back : (m : machine.Client) → ClientStands medium scripts old m → Came medium old x z m
+        came_back m here =
             let down : FallenStands medium scripts old m = fallen_stands medium scripts old m back.off here in
-            let t = (all_cut scripts).step _ ((returns scripts).step m down).4 in
-            record {
-              on = true;
-              mid = y;
-              rest = t.0;
-              came = back.came m.node down.node;
-              whole = t.2;
-              stopped = λ never. absurd (not_both never);
-            }
+            let t = all_cut _ (turns back scripts m down).stands in
+            record { on = true; mid = y; rest = t.text; came = back.came m.node down.node; whole = t.wrote; stopped = λ never. absurd cc }
 
 -- ---- its disk
 

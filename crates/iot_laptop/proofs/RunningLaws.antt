@@ -1,35 +1,54 @@
--- A call on a transaction that runs first makes it yield; and one begins.
-use Rattle.std.proofs.lemmas.Result.{IfOk-at_ok}
-use Rattle.std.proofs.Common.{◌≡◌, ◌+◌, ◌==◌, ℕ, Bool, true, false, List, [], ◌∷◌, ◌++◌, Some, None, Result, Ok, Err, refl, sym, ap}
-use Rattle.std.proofs.Common.{subst, ◌∙◌}
-use Rattle.std.proofs.lemmas.Bool.{cond-true, cond-false, cond_both}
+-- A call on a transaction that runs first makes it yield; and how one begins, makes a step, and ends.
+use Rattle.std.proofs.lemmas.Result.{IfOk-at_ok, IfOk-weaker}
+use Rattle.std.proofs.Common.{◌≡◌, ◌+◌, ◌==◌, ℕ, Bool, true, false, List, [], ◌∷◌, ◌++◌, Some, None, Result, Ok, Err, refl, sym, ap, subst}
+use Rattle.std.proofs.Common.{◌∙◌, Option, arith, rules}
 use Rattle.std.specs.List.{list_any}
-use Rattle.std.specs.Prelude.{IfOk, OnOk, IsErrOf}
+use Rattle.std.specs.Prelude.{IfOk, OnOk, IsErrOf, option_map}
 use Rattle.std.proofs.lemmas.List.{append-nil}
 use Rattle.std.proofs.lemmas.Option.{same_Some}
-use Rattle.iot_changes.specs.declared.changes.Change.TheVariants.{Begun}
-use Rattle.iot_client.specs.Calls.{CutsOff, yielded, with_live, yielded_to}
+use Rattle.iot_changes.specs.declared.changes.Change.TheVariants.{Begun, Acted, Ended, Again}
+use Rattle.iot_client.specs.Calls.{CutsOff, yielded, with_live, yielded_to, ChangesClasses, CutsOffNext, IsSoOfRun, CanAct, CutsOffEnd}
+use Rattle.iot_client.specs.Calls.{joining, starting, EndIs, Differs, lives_after, other_lives}
 use Rattle.iot_kept.proofs.SyncedLaws.{synced_numbered}
-use Rattle.iot_kept.specs.States.{has_number, numbered}
-use Rattle.iot_laptop.specs.Alone.{StartsAlone, set_class, yields_by, yielding, YieldsAlone}
-use Rattle.iot_laptop.specs.Below.{Client, ClientFault, Declared, Halt, IsScript, Item, Laptop, Live, Medium}
-use Rattle.iot_laptop.specs.Below.{CanFollow, NoMemory, Notes, Over, State, StepsTo, Stopped, Transaction, after, begin, disk_of}
-use Rattle.iot_laptop.specs.Below.{live_numbered}
-use Rattle.iot_laptop.specs.Below.{live_of, records_of, second_class, state_of}
-use Rattle.iot_laptop.specs.Calls.{Begins}
-use Rattle.iot_machine.specs.Calls.{Asks}
-use Rattle.iot_laptop.specs.Laptops.{LaptopStands, ClientStands}
+use Rattle.iot_kept.specs.States.{numbered}
+use Rattle.iot_laptop.specs.Alone.{StartsAlone, set_class, yields_by, yielding, YieldsAlone, NotesAlone, ComparesAlone, change_by}
+use Rattle.iot_laptop.specs.Alone.{notes_found, CertifiesAlone}
+use Rattle.iot_laptop.specs.Below.{Client, ClientFault, Declared, Halt, IsScript, Item, Laptop, Live, Medium, CanFollow, NoMemory, Notes}
+use Rattle.iot_laptop.specs.Below.{Over, State, StepsTo, Stopped, Transaction, after, begin, disk_of, live_numbered, live_of, records_of}
+use Rattle.iot_laptop.specs.Below.{second_class, state_of, Act, Code, Step, StepIs, act_once, next_acts, stamps_of, ClientState, Try}
+use Rattle.iot_laptop.specs.Below.{acts_output, may_end_if_any, transaction_name, view}
+use Rattle.iot_laptop.specs.Calls.{Begins, NextIs, TakesStep, UnlessNoMemory, done, acts_by, certified_if, compared_if, waits_after}
+use Rattle.iot_laptop.specs.Calls.{EndsAlone, IsDoneIn, IsGoneIfAny}
+use Rattle.iot_machine.specs.Calls.{Asks, Answers, Then, unless_over}
+use Rattle.iot_laptop.specs.Laptops.{LaptopStands, ClientStands, IsFirstOf, KeepsTrails, Reclassed, state_by, stamps_by, state_in}
+use Rattle.iot_laptop.specs.Laptops.{stamps_in, live_in}
 use Rattle.iot_machine.specs.Machine.{classed}
-use Rattle.iot_machine.specs.Transactions.{has_any}
-use Rattle.iot_machine.proofs.StepsLaws.{answers, asks, bind}
+use Rattle.iot_machine.specs.Transactions.{has_any, Compared, Same}
+use Rattle.iot_machine.proofs.StepsLaws.{answers, asks, at_each, at_one, bind, does, gets, joined, quiet}
 use Rattle.iot_node.specs.Steps.{EndsBy}
-use Rattle.iot_standing.proofs.KeptLaws.{KeptLive, begun_live, stands_so, yielded_live, yields}
-use Rattle.iot_standing.proofs.StatesLaws.{one_is}
-use Rattle.iot_standing.specs.States.{RunningStands}
+use Rattle.iot_standing.proofs.KeptLaws.{KeptLive, begun_live, stands_so, yielded_live, yields, acted_live, again_live, ended_live}
+use Rattle.iot_standing.proofs.KeptLaws.{ended_waits, same_reads, parts as reads_part}
+use Rattle.iot_standing.proofs.StatesLaws.{one_is, acts_is, next_is, may_end_is}
+use Rattle.iot_standing.specs.States.{RunningStands, next_as, waits_of}
 use Rattle.iot_tree.specs.declared.labels.OnConflict.{OnConflict as OnConflictNamed}
 use Rattle.iot_laptop.proofs.CallsLaws.{Called, Known, answered_so, from_known, known_was, notes_at, notes_halt}
+use Rattle.iot_machine.specs.Clients.{next_step}
+use Rattle.iot_standing.proofs.RunsLaws.{SoOf, so_of, kept_as, kept_both, number_found, own_number}
+use Rattle.iot_laptop.proofs.NodesLaws.{reclasses}
+use Rattle.iot_laptop.proofs.CallsLaws.{goes_trails}
+use Rattle.iot_client.specs.declared.ended.Ended.{Ended as EndedIs}
+use Rattle.iot_acts.specs.Traces.{ActsHold}
+use Rattle.iot_kept.specs.Changes.{IsSomeOf, RunIs}
+use Rattle.iot_machine.specs.Refining.{StepFrom}
+use Rattle.iot_standing.specs.Kept.{RunningKept, StateKept}
+use Rattle.iot_tree.specs.declared.questions.Question.{Question}
 use Rattle.iot_machine.specs.Clients as clients
 use Rattle.iot_machine.specs.Machine as machine
+use Rattle.iot_client.proofs.TrailsLaws as client
+use Rattle.iot_client.specs.declared.steps.Step.TheVariants as steps
+use Rattle.iot_client.specs.declared.ended.Ended.TheVariants as ends
+use Rattle.iot_machine.specs.Transactions as compares
+use Rattle.iot_laptop.specs.Alone as alones
 
 -- ---- one yields
 
@@ -54,54 +73,13 @@ second_of : (number : ℕ) (running : List Transaction) (lives : List Live) (liv
     → live_numbered number running (with_live number second_class running lives) ≡ Some live → live.first ≡ false
 second_of number [] lives live found = absurd cc
 second_of number (it ∷ running) [] live found = absurd cc
-second_of number (it ∷ running) (one ∷ lives) live found =
-    cond_both (has_number number it) (second_class one ∷ lives) (one ∷ with_live number second_class running lives)
-    (λ all. live_numbered number (it ∷ running) all ≡ Some live → live.first ≡ false)
-    (λ is found. sym (ap (λ (l : Live). l.first) (same_Some (second_class one) live
-    (sym (cond-true (has_number number it) (Some (second_class one)) (live_numbered number running lives) is) ∙ found))))
-    (λ is found. second_of number running lives live (sym (cond-false (has_number number it) (Some one)
-    (live_numbered number running (with_live number second_class running lives)) is) ∙ found)) found
+second_of number (it ∷ running) (one ∷ lives) live found = grind (arith, second_of number running lives live)
 
 pub none_waits : (items : List Item) (number : ℕ) (running : List Transaction) (lives : List Live) (live : Live)
     → live_numbered number running (yielded_to items number running lives) ≡ Some live → live.first ≡ true → items ≡ []
 none_waits [] number running lives live found first = refl
 none_waits (item ∷ items) number running lives live found first =
     let second : live.first ≡ false = second_of number running lives live found in absurd cc
-
--- ---- a call that is first to yield
-
-module _ {D T : Type 0} {medium : Medium D} {laptop : Laptop D} {was now : Client D} {answer : Result T ClientFault} {new : Laptop D}
-    {x y : List ℕ} {result : Result T Halt} (call : Called medium laptop was now answer new x y result) (number : ℕ) where
-  abbrev s : State
-  s = state_of was
-
-  abbrev known : List Live
-  known = yielded number s (live_of was)
-
-  module _ (scripts : List Declared) (m : machine.Client) (here : LaptopStands medium scripts laptop m) where
-    -- what is known of it, once it has yielded in the client of the machine
-    pub known_then : KeptLive scripts s known (first_then number m) m.node.durable
-    known_then = yielded_live (known_was call scripts m here).kept number (synced_numbered medium was.kept call.was_tied.synced)
-
-    -- so it is if the client of the machine has yielded, and the laptop has not yet
-    pub known_yielded : Known medium scripts s known laptop (yielding number m)
-    known_yielded = subst (Known medium scripts s known laptop) (sym (yielding_is number m)) (record {
-      before = record { name = here.name; link = here.link; alive = here.alive; node = here.node; named = here.named };
-      kept = known_then;
-    })
-
-    -- one that the client finds is the one that the machine finds
-    pub found_then : (it : clients.Running) → clients.numbered number m.node.durable ≡ Some it → (own : Transaction) (live : Live)
-        → numbered number s.running ≡ Some own → live_numbered number s.running known ≡ Some live
-        → RunningStands own live (first_then number m) it
-    found_then it runs own live is lives =
-        let run = one_is s known (first_then number m) m.node.durable (stands_so known_then) number it runs in
-        rw (← same_Some run.own own (sym run.is ∙ is), ← same_Some run.besides live (sym run.lives ∙ lives)) run.stands
-
-  pub yields_at : (scripts : List Declared)
-      → StepsTo (LaptopStands medium scripts) (Known medium scripts s known) (YieldsAlone number) laptop laptop x x tt
-  yields_at scripts =
-      record { step = λ m here. ([], yielding number m, sym (append-nil x), (refl, refl), known_yielded scripts m here) }
 
 -- ---- it begins
 
@@ -147,7 +125,7 @@ module _ {D : Type 0} {medium : Medium D} {laptop : Laptop D} {was now : Client 
           (from_known call scripts new y (Some tt)
           (notes_at call scripts (live_of was) later (begin script on_conflict) (classed given first) (Begun given script.name option) kept
           t is (rw its at (IfOk-at_ok _ ok notes)) (IfOk-at_ok _ ok lives)))
-          (record { step = λ m here. ([], set_class given first m, sym (append-nil y), (refl, refl, refl), here) })))
+          (gets (λ m here. (refl, here)))))
       by (Err NoMemory) is = tt
       by (Err Over) is =
           bind {a = given} asked
@@ -156,3 +134,263 @@ module _ {D : Type 0} {medium : Medium D} {laptop : Laptop D} {was now : Client 
           (notes_halt call scripts (live_of was) later (begin script on_conflict) (classed given first) (Begun given script.name option)
           kept is (stops (call.goes.stopped is))))
           (answers (λ m here. here)))
+
+-- one that may end has done all that it may do
+pub is_done : {D : Type 0} (medium : Medium D) (number : ℕ) (laptop : Laptop D)
+    → may_end_if_any (numbered number (state_in laptop).running) (live_numbered number (state_in laptop).running (live_in laptop)) ≡ true
+    → IsDoneIn medium number laptop
+is_done medium number laptop may scripts m it here runs =
+    (may_end_is (state_in laptop) (live_in laptop) m.first m.node.durable here.state number it runs).0 may (machine.is_first it.number m)
+
+abbrev certify_by : ℕ → clients.Running → Try machine.Client Compared
+certify_by n it = Then (YieldsAlone n) (λ _. Then (ComparesAlone it) (notes_found n))
+
+-- ---- a call on one that runs, which is first to yield
+
+module _ {D : Type 0} (was : Client D) (number : ℕ) where
+  abbrev s : State
+  s = state_of was
+
+  abbrev known : List Live
+  known = yielded number s (live_of was)
+
+  abbrev OfRun : (Transaction → Bool → Code → Type 0) → Type 0
+  OfRun Is = SoOf Is (numbered number s.running) (live_numbered number s.running known)
+
+  module _ {T : Type 0} {medium : Medium D} {laptop : Laptop D} {now : Client D} {answer : Result T ClientFault} {new : Laptop D}
+      {x y : List ℕ} {result : Result T Halt} (call : Called medium laptop was now answer new x y result) where
+    module _ (scripts : List Declared) (m : machine.Client) (here : LaptopStands medium scripts laptop m) where
+      -- what is known of it, once it has yielded in the client of the machine
+      pub known_then : KeptLive scripts s known (first_then number m) m.node.durable
+      known_then = yielded_live (known_was call scripts m here).kept number (synced_numbered medium was.kept call.was_tied.synced)
+
+      -- so it is if the client of the machine has yielded, and the laptop has not yet
+      pub known_yielded : Known medium scripts s known laptop (yielding number m)
+      known_yielded = subst (Known medium scripts s known laptop) (sym (yielding_is number m)) (search (rules, known_then))
+
+      -- one that the client finds is the one that the machine finds
+      pub found_then : (it : clients.Running) → clients.numbered number m.node.durable ≡ Some it → (own : Transaction) (live : Live)
+          → numbered number s.running ≡ Some own → live_numbered number s.running known ≡ Some live
+          → RunningStands own live (first_then number m) it
+      found_then it runs own live is lives =
+          let run = one_is s known (first_then number m) m.node.durable (stands_so known_then) number it runs in
+          rw (← same_Some run.own own (sym run.is ∙ is), ← same_Some run.besides live (sym run.lives ∙ lives)) run.stands
+
+    pub yields_at : (scripts : List Declared)
+        → StepsTo (LaptopStands medium scripts) (Known medium scripts s known) (YieldsAlone number) laptop laptop x x tt
+    yields_at scripts = does (λ m here. (sym (append-nil x), known_yielded scripts m here))
+
+  -- ---- it makes a step
+
+  module _ {medium : Medium D} {laptop : Laptop D} {now : Client D} {answer : Result Step ClientFault} {new : Laptop D} {x y : List ℕ}
+      {result : Result Step Halt} (call : Called medium laptop was now answer new x y result)
+      (does : IfOk answer (λ step. IsSoOfRun (λ it first code. StepIs was it first code step now) number s (live_of was)))
+      (lives : OnOk answer (live_of now ≡ known))
+      (stops : IsErrOf answer Stopped → IsSoOfRun (λ it first code. CutsOffNext it first code s (records_of was)
+      (medium.may_leave (disk_of now))) number s (live_of was)) where
+    -- an act of what runs
+    acts : {Is : Transaction → Bool → Code → Type 0} (it : OfRun Is) (act : Act) → CanAct it.own it.besides.first it.code
+        → next_acts it.own it.code ≡ act ∷ [] → (scripts : List Declared) (m : machine.Client) → Known medium scripts s known laptop m
+        → CanFollow s (Acted it.own.number act)
+        → KeptLive scripts (after s (Acted it.own.number act)) known m.first (act_once number m.node.durable)
+    acts it act can next scripts m here follows = acted_live here.kept number it.own it.besides it.code it.is it.lives it.has act can next
+
+    -- the step that was done, of what ran
+    stepped : (step : Step) → result ≡ Ok step → OfRun (λ it first code. StepIs was it first code step now)
+    stepped step ok = so_of (λ it first code. StepIs was it first code step now) _ _ (IfOk-at_ok _ (answered_so call step ok) does)
+
+    -- the act in which it stopped
+    halted : result ≡ Err Over
+        → OfRun (λ it first code. CutsOffNext it first code s (records_of was) (medium.may_leave (disk_of now)))
+    halted same =
+        so_of (λ it first code. CutsOffNext it first code s (records_of was) (medium.may_leave (disk_of now))) _ _
+        (stops (call.goes.stopped same))
+
+    -- nothing but its class is another
+    stays : (step : Step) → result ≡ Ok step → ChangesClasses was now → Reclassed medium (yielding number) laptop new × (y ≡ x)
+    stays step ok same =
+        let done : answer ≡ Ok step = answered_so call step ok in (
+          subst (Reclassed medium (yielding number) laptop) (sym (IfOk-at_ok _ ok call.goes.same))
+              (reclasses call.up same (IfOk-at_ok _ done call.tied) (yielding number) (first_then number) (yielding_is number)
+              (λ scripts m here. IfOk-at_ok _ done lives ∙ (known_then call scripts m here).runs)),
+          IfOk-at_ok _ ok call.goes.silent,
+        )
+
+    pub steps_by : (r : Result Step Halt) → result ≡ r → TakesStep medium number laptop new x y r
+    steps_by (Ok (steps.Acted acts_done ended)) same =
+        let it = stepped (steps.Acted acts_done ended) same in λ scripts.
+        let notes = notes_at call scripts known known (act_once number) (λ b. b) (Acted it.own.number it.so.act)
+        (acts it it.so.act it.so.can it.so.next scripts) _ same it.so.notes (IfOk-at_ok _ (answered_so call _ same) lives) in
+        record { is = bind {a = tt} (yields_at call scripts) notes }
+    steps_by (Ok (steps.Fetch request path)) same =
+        let it = stepped (steps.Fetch request path) same in
+        let kept = stays (steps.Fetch request path) same it.so.1.stays in
+        let after : live_in new ≡ known =
+        ap live_in (IfOk-at_ok _ same call.goes.same) ∙ IfOk-at_ok _ (answered_so call (steps.Fetch request path) same) lives in
+        let state : state_in new ≡ s = kept.0.state ∙ ap state_by call.up in
+        let stamps : stamps_in new ≡ stamps_of was = kept.0.stamps ∙ ap stamps_by call.up in
+        let found : live_numbered number (state_in new).running (live_in new) ≡ Some it.besides =
+        (λ i. live_numbered number (state i).running (after i)) ∙ it.lives in (
+          kept.0,
+          kept.1,
+          rw (kept.0.place, ← call.placed, stamps) it.so.0,
+          subst IsFirstOf (sym found) it.so.1.first_class,
+          ap (λ (s : State). s.items) state ∙ none_waits s.items number s.running (live_of was) it.besides it.lives it.so.1.first_class,
+        )
+    steps_by (Ok (steps.AtEnd acts)) same = stays (steps.AtEnd acts) same (stepped (steps.AtEnd acts) same).so.2
+    steps_by (Ok (steps.AtLimit acts)) same = stays (steps.AtLimit acts) same (stepped (steps.AtLimit acts) same).so.3
+    steps_by (Err NoMemory) same = λ scripts. record { is = tt }
+    steps_by (Err Over) same =
+        let it = halted same in λ scripts.
+        let halts = notes_halt call scripts known known (act_once number) (λ b. b) (Acted it.own.number it.so.act)
+        (acts it it.so.act it.so.can it.so.next scripts) same it.so.cuts_off in
+        record { is = bind {a = tt} (yields_at call scripts) halts }
+
+    -- so is what the machine does next
+    pub next_by : (r : Result Step Halt) → result ≡ r → NextIs medium number laptop r
+    next_by (Ok step) same = λ scripts m it here runs.
+        let so = stepped step same in
+        subst (λ (class : Bool). next_step class it ≡ next_as step) (class_then number m it)
+        (next_is so.own so.besides (first_then number m) it
+        (found_then call scripts m here it runs so.own so.besides so.is so.lives) so.code so.has was now step so.so)
+    next_by (Err NoMemory) same = tt
+    next_by (Err Over) same = λ scripts m it here runs.
+        let so = halted same in
+        subst (λ (class : Bool). next_step class it ≡ clients.Acts) (class_then number m it)
+        (acts_is so.own so.besides (first_then number m) it
+        (found_then call scripts m here it runs so.own so.besides so.is so.lives) so.code so.has so.so.can)
+
+    -- a server's stamps are kept
+    pub step_trails : UnlessNoMemory (done result) (KeepsTrails laptop new)
+    step_trails = goes_trails call (IfOk-weaker answer _ _ (λ step is.
+        let so : OfRun (λ it first code. StepIs was it first code step now) =
+        so_of (λ it first code. StepIs was it first code step now) _ _ is in
+        client.step_trails medium was now so.own so.besides.first so.code step call.was_tied so.so) does) result refl
+
+  -- ---- it ends
+
+  module _ {medium : Medium D} {laptop : Laptop D} {now : Client D} {answer : Result EndedIs ClientFault} {new : Laptop D} {x y : List ℕ}
+      {result : Result EndedIs Halt} (call : Called medium laptop was now answer new x y result) (output : List ℕ)
+      (does : IfOk answer (λ ended. IsSoOfRun (λ it first code. EndIs was it first code ended now) number s (live_of was)))
+      (lives : IfOk answer (λ ended. live_of now
+      ≡ lives_after ended number s.running known))
+      (stops : IsErrOf answer Stopped → IsSoOfRun (λ it first code. CutsOffEnd it code s (records_of was)
+      (medium.may_leave (disk_of now))) number s (live_of was)) where
+    did : (ended : EndedIs) → result ≡ Ok ended → OfRun (λ it first code. EndIs was it first code ended now)
+    did ended ok = so_of (λ it first code. EndIs was it first code ended now) _ _ (IfOk-at_ok _ (answered_so call ended ok) does)
+
+    module _ (scripts : List Declared) (own : Transaction) (found : numbered number s.running ≡ Some own) where
+      -- the one that is certified is the one that the machine finds; it is compared with what is kept, and what was found is noted
+      certifies : {after_it : Laptop D → machine.Client → Type 0} {z : List ℕ} {end : Laptop D} (what : Compared)
+          (noted : Option (Unit {0}))
+          → ((m : ClientState) → StateKept s m → (it : clients.Running) → RunningKept own it → (client : machine.Client)
+          → client.node.durable ≡ m → ComparesAlone it client [] what client)
+          → StepsTo (Known medium scripts s known) after_it (NotesAlone (change_by number what)) laptop end x z noted
+          → StepsTo (LaptopStands medium scripts) after_it (CertifiesAlone number) laptop end x z (option_map (λ _. what) noted)
+      certifies {after_it} {z} {end} what noted makes notes = at_each (λ m here.
+          let there : Known medium scripts s known laptop (yielding number m) = known_yielded call scripts m here in
+          let kept = (known_then call scripts m here).kept in
+          let k = kept_as number s.running m.node.durable.running kept.running own found in
+          let durable : (yielding number m).node.durable ≡ m.node.durable =
+          ap (λ (k : machine.Client). k.node.durable) (yielding_is number m) in
+          joined (quiet {P = LaptopStands medium scripts} {a = Some k.it} m (refl, sym k.is, refl) here)
+          (subst (λ (n : ℕ). StepFrom after_it (certify_by n k.it) m end x z (option_map (λ _. what) noted))
+          (sym (number_found number m.node.durable.running k.it k.is))
+          (joined (quiet {P = Known medium scripts s known} {a = tt} (yielding number m) (refl, refl) there)
+          (joined (quiet {P = Known medium scripts s known} {a = what} (yielding number m)
+          (makes m.node.durable kept k.it k.kept (yielding number m) durable) there)
+          (at_one (bind {a = noted} notes (goes noted)) there)))))
+        where
+          goes : (a : Option (Unit {0}))
+              → StepsTo after_it after_it (unless_over (λ _. Answers (Some what)) a) end end z z (option_map (λ _. what) a)
+          goes None = answers (λ m here. here)
+          goes (Some u) = answers (λ m here. here)
+
+      -- what holds on the view, ..
+      same_there : CanFollow s (Ended own.number) → (m : ClientState) → StateKept s m → (it : clients.Running) → RunningKept own it
+          → (client : machine.Client) → client.node.durable ≡ m → ComparesAlone it client [] Same client
+      same_there follows m kept it run client is =
+          let holds : ActsHold (view s) own.acts =
+          subst (IsSomeOf (λ it. ActsHold (view s) it.acts)) found
+          (subst (λ (n : ℕ). RunIs n (λ it. ActsHold (view s) it.acts) s.running) (own_number number s.running own found) follows) in
+          alones.same (rw is (same_reads s m kept own it run holds)) refl refl refl
+
+      -- .. and what parts there
+      parts_there : (read : ℕ) (question : Question) → Differs (view s) own read question → (m : ClientState) → StateKept s m
+          → (it : clients.Running) → RunningKept own it → (client : machine.Client) → client.node.durable ≡ m
+          → ComparesAlone it client [] (compares.Differs read question) client
+      parts_there read question differs m kept it run client is =
+          alones.parts read question (rw is (reads_part s m kept own it run read question differs)) refl refl refl
+
+    -- it is certified, or stops in that
+    pub ends_by : (r : Result EndedIs Halt) → result ≡ r → (scripts : List Declared)
+        → EndsAlone medium scripts (CertifiesAlone number) laptop new x y (compared_if (certified_if laptop.name output r))
+    ends_by (Ok (ends.Joined tid class)) ok scripts =
+        let so = did (ends.Joined tid class) ok in
+        let notes = notes_at call scripts known (other_lives number s.running known) (clients.end number) (λ b. b) (Ended so.own.number)
+        (λ m here. ended_live here.kept number so.own so.besides so.code so.is so.lives so.has so.so.2.may) _ ok so.so.2.notes
+        (IfOk-at_ok _ (answered_so call _ ok) lives) in
+        record { is = certifies scripts so.own so.is Same (Some tt) (same_there scripts so.own so.is so.so.2.notes.follows) notes }
+    ends_by (Ok (ends.Again read question)) ok scripts =
+        let so = did (ends.Again read question) ok in
+        let there = parts_there scripts so.own so.is read question so.so.differs in
+        let notes = notes_at call scripts known known (clients.again number) (λ b. b) (Again so.own.number)
+        (λ m here follows. again_live here.kept number so.own so.is) _ ok so.so.notes (IfOk-at_ok _ (answered_so call _ ok) lives) in
+        record { is = certifies scripts so.own so.is (compares.Differs read question) (Some tt) there notes }
+    ends_by (Err NoMemory) over scripts = record { is = tt }
+    ends_by (Err Over) over scripts = record { is = by so.so }
+      where
+        so : OfRun (λ it first code. CutsOffEnd it code s (records_of was) (medium.may_leave (disk_of now)))
+        so = so_of (λ it first code. CutsOffEnd it code s (records_of was) (medium.may_leave (disk_of now))) _ _
+            (stops (call.goes.stopped over))
+
+        by : CutsOffEnd so.own so.code s (records_of was) (medium.may_leave (disk_of now))
+            → StepsTo (LaptopStands medium scripts) (ClientStands medium scripts) (CertifiesAlone number) laptop new x y None
+        by (joining may cut) =
+            certifies scripts so.own so.is Same None (same_there scripts so.own so.is cut.follows)
+            (notes_halt call scripts known (other_lives number s.running known) (clients.end number) (λ b. b) (Ended so.own.number)
+            (λ m here. ended_live here.kept number so.own so.besides so.code so.is so.lives so.has may) over cut)
+        by (starting read question may differs cut) =
+            certifies scripts so.own so.is (compares.Differs read question) None (parts_there scripts so.own so.is read question differs)
+            (notes_halt call scripts known known (clients.again number) (λ b. b) (Again so.own.number)
+            (λ m here follows. again_live here.kept number so.own so.is) over cut)
+
+    -- ---- what is told of one that waits then
+
+    pub is_gone : output ≡ acts_output (acts_by (numbered number (state_in laptop).running)) → (r : Result EndedIs Halt) → result ≡ r
+        → IfOk (certified_if laptop.name output r) (IsGoneIfAny medium number laptop)
+    is_gone printed (Ok (ends.Joined tid class)) ok = λ scripts m it here runs.
+        let so = did (ends.Joined tid class) ok in
+        let kept = known_then call scripts m here in
+        let same = kept_both number s.running m.node.durable.running kept.kept.running so.own so.is it runs in
+        let stands = found_then call scripts m here it runs so.own so.besides so.is so.lives in
+        record {
+          name = λ i. transaction_name (here.name i) ((so.so.0 ∙ same.number) i);
+          class = so.so.1 ∙ stands.class ∙ class_then number m it;
+          did =
+              printed ∙ ap (λ (s : State). acts_output (acts_by (numbered number s.running))) (ap state_by call.up)
+              ∙ ap (λ (o : Option Transaction). acts_output (acts_by o)) so.is ∙ ap acts_output same.acts;
+        }
+    is_gone printed (Ok (ends.Again read question)) ok = tt
+    is_gone printed (Err halt) over = tt
+
+    pub waits_then : (r : Result EndedIs Halt) → result ≡ r → waits_after new (certified_if laptop.name output r)
+    waits_then (Ok (ends.Joined tid class)) ok =
+        let so = did (ends.Joined tid class) ok in
+        ap (λ (l : Laptop D). waits_of (state_in l).items) (IfOk-at_ok _ ok call.goes.same)
+        ∙ ap (λ (s : State). waits_of s.items) so.so.2.notes.state ∙ ended_waits s so.own.number so.so.2.notes.follows
+    waits_then (Ok (ends.Again read question)) ok = tt
+    waits_then (Err halt) over = tt
+
+    -- a server's stamps are kept
+    pub end_trails : (r : Result EndedIs Halt) → result ≡ r
+        → UnlessNoMemory (done (certified_if laptop.name output r)) (KeepsTrails laptop new)
+    end_trails r same = rw (certified_done r) (goes_trails call (IfOk-weaker answer _ _ (λ ended is.
+        let so : OfRun (λ it first code. EndIs was it first code ended now) =
+        so_of (λ it first code. EndIs was it first code ended now) _ _ is in
+        client.end_trails medium was now so.own so.besides.first so.code ended call.was_tied so.so) does) r same)
+      where
+        certified_done : (r : Result EndedIs Halt) → done (certified_if laptop.name output r) ≡ done r
+        certified_done (Ok (ends.Joined tid class)) = refl
+        certified_done (Ok (ends.Again read question)) = refl
+        certified_done (Err halt) = refl

@@ -1,23 +1,16 @@
 -- What a client is as the keeper of a node: how it starts, and what its disk holds.
-use Rattle.std.proofs.Common.{◌≡◌, ◌≤◌, ℕ, suc, Bool, true, false, List, [], ◌∷◌, drop, length, Option, is_some, refl, sym, ap}
-use Rattle.std.proofs.Common.{subst, ◌∙◌, inl, inr}
-use Rattle.std.proofs.Common.{arith, not}
-use Rattle.std.proofs.lemmas.Bool.{cond-false, cond_both}
-use Rattle.std.proofs.lemmas.List.{length-map}
-use Rattle.std.proofs.lemmas.List.Filters.{length-filter_both}
-use Rattle.iot_client.specs.Ties.{AreFound, AreRuns, lives as lives_of}
-use Rattle.iot_client.specs.declared.interpreter.Interpreter.{Interpreter}
-use Rattle.iot_kept.specs.Kept.{memory_of}
-use Rattle.iot_kept.specs.Memory.{classes_of, transactions}
-use Rattle.iot_kept.specs.declared.running.Running.{Running as RunningIn}
-use Rattle.iot_standing.proofs.RunsLaws.{live_as, live_with, many_stand, run_stands}
+use Rattle.std.proofs.Common.{◌≡◌, ℕ, Bool, true, false, List, [], ◌∷◌, is_some, refl, sym, ap, subst, ◌∙◌, inl, inr, rules}
+use Rattle.std.proofs.lemmas.Bool.{cond-true, cond_both}
+use Rattle.std.specs.List.{list_all}
+use Rattle.iot_client.specs.Ties.{AreFound, AreRuns, classes_in}
+use Rattle.iot_standing.proofs.RunsLaws.{live_with, none_live}
 use Rattle.iot_machine.specs.Clients as clients
 use Rattle.iot_durable.specs.Causes as causes
 use Rattle.iot_kept.proofs.SyncedLaws.{synced_stands}
 use Rattle.iot_kept.specs.Rules.{rules as kept_rules}
 use Rattle.iot_kept.specs.Standing.{EachStands, records_in}
 use Rattle.iot_laptop.specs.Below.{Medium, StandFor, StandWith, State, IsTied, state_of, place_of, disk_of, records_of, Client, ClientState}
-use Rattle.iot_laptop.specs.Below.{Seated, Live, live_of, next, stamps_of, counts_on}
+use Rattle.iot_laptop.specs.Below.{Seated, Live, Transaction, live_of, next, stamps_of, counts_on}
 use Rattle.iot_node.proofs.PostsLaws.{same_counts}
 use Rattle.iot_disk.specs.declared.faults.StartFault.{StartFault}
 use Rattle.iot_node.specs.Keeping.{EachIs, CanStart, HoldSame, Comes, Fails, CountsStart}
@@ -26,7 +19,7 @@ use Rattle.iot_standing.specs.Kept.{RunKept, StateKept}
 use Rattle.iot_stamp.specs.Stamps.{unstamped}
 use Rattle.iot_laptop.specs.Seats.{Besides, IsSeated, IsClientImage, begun_of, seating, besides, none_besides}
 use Rattle.iot_laptop.specs.Laptops.{live_by, stamps_by}
-use Rattle.iot_laptop.specs.Below.{Post, Up, nothing_held}
+use Rattle.iot_laptop.specs.Below.{Post, Up}
 use Rattle.iot_node.specs.Posts as posts
 use Rattle.std.proofs.Common.{Some, None, if◌then◌else◌}
 use Rattle.std.proofs.lemmas.Option.{same_Some}
@@ -38,52 +31,37 @@ use Rattle.iot_stamp.proofs.TrailsLaws.{none_lent}
 -- of those that a start found none was begun since
 pub found_none : (lives : List Live) → AreFound lives → begun_of lives ≡ []
 found_none [] found = refl
-found_none (live ∷ lives) found =
-    cond-false (is_some live.code) (live ∷ begun_of lives) (begun_of lives) (ap is_some found.0.none) ∙ found_none lives found.1
+found_none (live ∷ lives) found = rw found.0.none
 
--- so it is of the later ones
-pub later_none : (lives : List Live) → begun_of lives ≡ [] → begun_of (drop 1 lives) ≡ []
-later_none [] none = refl
-later_none (live ∷ lives) none =
-    cond_both (is_some live.code) (live ∷ begun_of lives) (begun_of lives) (λ all. all ≡ [] → begun_of lives ≡ [])
-    (λ is none. absurd cc) (λ is none. none) none
+all_begun : (first : List ℕ) (ms : List clients.Running) → list_all (λ live. is_some live.code) (live_with first ms) ≡ true
+all_begun first [] = refl
+all_begun first (m ∷ ms) = all_begun first ms
 
 -- all of these were begun
 pub begun_all : (first : List ℕ) (ms : List clients.Running) → begun_of (live_with first ms) ≡ live_with first ms
-begun_all first [] = refl
-begun_all first (m ∷ ms) = ap (λ (lives : List Live). live_as first m ∷ lives) (begun_all first ms)
+begun_all first ms = cond-true _ _ _ (all_begun first ms)
 
-few_begun : (lives : List Live) → length (begun_of lives) ≤ length lives
-few_begun lives = omega (arith, length-filter_both (λ live. is_some live.code) (λ live. not (is_some live.code)) (λ live. refl) lives)
+-- nothing runs
+pub none_runs : (running : List Transaction) → RunKept running [] → running ≡ []
+none_runs [] kept = refl
+none_runs (it ∷ running) kept = absurd kept
 
--- if as many were begun as there are, all were
-begun_whole : (lives : List Live) → length (begun_of lives) ≡ length lives → begun_of lives ≡ lives
-begun_whole [] many = refl
-begun_whole (live ∷ lives) many =
-    cond_both (is_some live.code) (live ∷ begun_of lives) (begun_of lives)
-    (λ all. length all ≡ length (live ∷ lives) → all ≡ live ∷ lives)
-    (λ is many. ap (λ (others : List Live). live ∷ others) (begun_whole lives (omega (arith, many))))
-    (λ is many. absurd (omega (arith, many, few_begun lives))) many
+-- so nothing is known of what runs
+pub none_known : {D : Type 0} {medium : Medium D} (it : Client D) → IsTied medium it → (state_of it).running ≡ [] → live_of it ≡ []
+none_known it tied none =
+    none_live (classes_in it) it.interpreters.items
+    (subst (λ (running : List Transaction). AreRuns running it.interpreters.items) none tied.runs)
 
--- there are as many as run
-many_known : (items : List RunningIn) (interpreters : List (Option Interpreter)) → AreRuns (transactions items) interpreters
-    → length (lives_of (classes_of items) interpreters) ≡ length (transactions items)
-many_known [] [] runs = refl
-many_known [] (i ∷ interpreters) runs = absurd runs
-many_known (it ∷ items) [] runs = absurd runs
-many_known (it ∷ items) (i ∷ interpreters) runs = ap suc (many_known items interpreters runs.1)
-
--- so what was begun tells all, of a client whose machine's client has these running
+-- what was begun tells all, of a client whose machine's client has these running
 pub known_again : {D : Type 0} {medium : Medium D} (it : Client D) → IsTied medium it → (first : List ℕ) (ms : List clients.Running)
     → RunKept (state_of it).running ms → begun_of (live_of it) ≡ live_with first ms → live_of it ≡ live_with first ms
 known_again it tied first ms kept begun =
-    let many : length (live_of it) ≡ length (state_of it).running =
-    many_known (memory_of it.kept).durable.running.items it.interpreters.items tied.runs in
-    let same : length (state_of it).running ≡ length ms =
-    many_stand (state_of it).running (live_with first ms) first ms (run_stands (state_of it).running first ms kept) in
-    let whole : length (begun_of (live_of it)) ≡ length (live_of it) =
-    ap length begun ∙ length-map ms (live_as first) ∙ sym same ∙ sym many in
-    sym (begun_whole (live_of it) whole) ∙ begun
+    cond_both (list_all (λ (live : Live). is_some live.code) (live_of it)) (live_of it) []
+    (λ all. all ≡ live_with first ms → live_of it ≡ live_with first ms) (λ is whole. whole) (λ is. none ms kept) begun
+  where
+    none : (ms : List clients.Running) → RunKept (state_of it).running ms → [] ≡ live_with first ms → live_of it ≡ live_with first ms
+    none [] kept is = none_known it tied (none_runs (state_of it).running kept)
+    none (m ∷ ms) kept is = absurd cc
 
 -- so it is of a node; nothing is known besides of one that is down
 abbrev pub besides_by : {D : Type 0} → Post (Seated D) D → Besides
@@ -96,12 +74,12 @@ besides_again (Up a) new same = absurd cc
 besides_again old (Up b) same = absurd cc
 besides_again old new same = refl
 
-pub besides_fresh : {D : Type 0} (new : Post (Seated D) D) (on : Bool)
-    → posts.live_of besides new ≡ (if on then Some none_besides else None) → besides_by new ≡ none_besides
-besides_fresh (Up b) true same = same_Some _ _ same
-besides_fresh (Up b) false same = absurd cc
-besides_fresh new on same =
-    let none : lent_stamps nothing_held ≡ None = none_lent _ in λ i. record { begun = []; lent = none i }
+-- no stamp is a server's after a start
+pub fresh_lent : {D : Type 0} (post : Post (Seated D) D) (on : Bool)
+    → posts.live_of besides post ≡ (if on then Some none_besides else None) → lent_stamps (stamps_by post) ≡ None
+fresh_lent (Up b) true same = ap (λ (k : Besides). k.lent) (same_Some _ _ same)
+fresh_lent (Up b) false same = absurd cc
+fresh_lent post on same = none_lent _
 
 -- ---- its disk
 
@@ -132,10 +110,7 @@ module _ {D : Type 0} (medium : Medium D) where
     hold_same : (place : ℕ) (images : List ℕ → Type 0)
         → ((state : State) → StandFor (medium.reads disk) state → EachStands images (records_in (medium.reads disk)) state)
         → HoldSame (seating medium place) (medium.reads disk) images
-    hold_same place images stand = record {
-      stand = holds;
-      turn = λ count m after is. holds (next count) after is;
-    }
+    hold_same place images stand = record { stand = holds; turn = λ count m after is. holds (next count) after is }
       where
         holds : (count : ℕ) (m : ClientState) → IsClientImage (medium.reads disk) count m
             → EachIs images (λ image. IsClientImage image count m)
@@ -158,12 +133,8 @@ module _ {D : Type 0} (medium : Medium D) where
       where
         from : (count : ℕ) (m : ClientState) → IsClientImage (medium.reads disk) count m
             → IsSeated medium place (record { client = it }) count m
-        from count m is = record {
-          place_is = place_is;
-          tied = tied;
-          counted = sym stands.counted ∙ is.stands.counted;
-          kept = subst (λ (state : State). StateKept state m) (sym (only is.state is.stands.stands)) is.kept;
-        }
+        from count m is =
+            let kept = subst (λ (state : State). StateKept state m) (sym (only is.state is.stands.stands)) is.kept in search rules
 
     counts_by : (fault : StartFault) (left : D) → causes.TakesBytes fault
         → causes.HasCause kept_rules fault (medium.reads disk) (medium.faults disk) (medium.faults left)
@@ -187,7 +158,4 @@ module _ {D : Type 0} (medium : Medium D) where
         → Fails (seating medium place) medium disk left fault
     seat_fails place fault left can never cause images arms =
         let here = stands_for place can in
-        record {
-          images = hold_same place (medium.may_leave left) images;
-          counts = counts_by fault left (never here.0 here.1) cause arms;
-        }
+        record { images = hold_same place (medium.may_leave left) images; counts = counts_by fault left (never here.0 here.1) cause arms }

@@ -43,11 +43,11 @@ use Rattle.iot_node.specs.declared.lines.Transaction as names
 use Rattle.iot_kept.specs.States.{numbered}
 use Rattle.iot_machine.specs.Transactions.{Compared, Same, Differs}
 use Rattle.iot_laptop.specs.Alone.{NotesAlone, StartsAlone, YieldsAndNotes, yielding}
-use Rattle.iot_laptop.specs.Laptops.{LaptopStands, ClientStands, NodeStands, Reclassed, state_in, stamps_in, live_in, IsFirst, is_alive}
+use Rattle.iot_laptop.specs.Laptops.{LaptopStands, ClientStands, NodeStands, Reclassed, state_in, stamps_in, IsFirst, is_alive}
 use Rattle.iot_standing.specs.States.{waits_of, told_change, IsOver, head_option, head_plan, next_as}
 use Rattle.iot_laptop.specs.Messages.{verdict_of}
 use Rattle.iot_standing.specs.Scripts.{IsNamed, HasNamed, AreNamed, option_named}
-use Rattle.iot_laptop.specs.Seats.{seating, begun_of}
+use Rattle.iot_laptop.specs.Seats.{seating}
 use Rattle.iot_laptop.specs.declared.needs.Certified.{Certified}
 use Rattle.iot_laptop.specs.declared.needs.Certified.TheVariants.{Joined, Again}
 use Rattle.iot_laptop.specs.declared.needs.Need.{Need}
@@ -253,14 +253,11 @@ IsDoneIn medium number laptop =
     → clients.numbered number m.node.durable ≡ Some it → IsOver (next_step (machine.is_first it.number m) it)
 
 -- what became of a transaction of the client of this name, which has printed this
-abbrev pub certified_as : (name output : List ℕ) → Ended → Certified
-certified_as name output (ends.Joined tid class) =
-    Joined (record { printed = record { transaction = record { client = name; number = tid }; output = output }; first = class })
-certified_as name output (ends.Again read question) = Again read question
-
-abbrev pub certified_if : (name output : List ℕ) → Result Ended ClientFault → Result Certified ClientFault
-certified_if name output (Ok ended) = Ok (certified_as name output ended)
-certified_if name output (Err fault) = Err fault
+abbrev pub certified_if : (name output : List ℕ) → Result Ended Halt → Result Certified Halt
+certified_if name output (Ok (ends.Joined tid class)) =
+    Ok (Joined (record { printed = record { transaction = record { client = name; number = tid }; output = output }; first = class }))
+certified_if name output (Ok (ends.Again read question)) = Ok (Again read question)
+certified_if name output (Err halt) = Err halt
 
 -- what was found, as the machine says it
 abbrev pub compared : Certified → Compared
@@ -312,17 +309,11 @@ pub record Before {D : Type 0} (medium : Medium D) (laptop : Laptop D) (scripts 
   pub node : NodeStands medium laptop m
   pub named : AreNamed scripts m.node.durable
 
--- one that has just come back: what it found running has no script, and is only to be cut off
-pub record ReturnedStands {D : Type 0} (medium : Medium D) (scripts : List Declared) (laptop : Laptop D) (m : machine.Client) : Type
-    0 where
-  pub before : Before medium laptop scripts m
-  pub open before use *
-  pub found : begun_of (live_in laptop) ≡ []
-
+-- one that has just come back: what it found running is only to be cut off
 pub record Returned {D : Type 0} (medium : Medium D) (laptop : Laptop D) : Type 0 where
   pub scripts : List Declared
   pub machine : machine.Client
-  pub stands : ReturnedStands medium scripts laptop machine
+  pub stands : Before medium laptop scripts machine
 
 -- The image that it came back from decides whether the record in doubt was kept, which is said, before anything is said of what ran; or
 -- it has stopped again, which is all that is said.
@@ -337,7 +328,7 @@ pub record Came {D : Type 0} (medium : Medium D) (old : Laptop D) (x y : List �
 -- these run in the client of the machine
 pub record Back {D : Type 0} (medium : Medium D) (scripts : List Declared) (running : List clients.Running) (laptop : Laptop D)
     (m : machine.Client) : Type 0 where
-  pub here : ReturnedStands medium scripts laptop m
+  pub here : Before medium laptop scripts m
   pub runs : m.node.durable.running ≡ running
 
 -- all that ran is cut off, one after the other, or it stops in that

@@ -1,5 +1,8 @@
 -- Which client of the machine a laptop stands for.
 use Rattle.std.specs.Prelude.{◌≡◌, ℕ, Bool, true, false, List, [], Option, Some, None}
+use Rattle.std.specs.Borrow.{Lends, Fml, RattleType, MutBor}
+use Rattle.iot_client.specs.contracts.client.Client as clients
+use Rattle.iot_laptop.specs.contracts.laptop.Laptop.{the_row}
 use Rattle.iot_laptop.specs.Below.{Nodes, State, opening, Live, Client, Medium, Passage, Declared, new_client, unopened, Possibly, IsEmpty}
 use Rattle.iot_client.specs.Calls.{live_numbered}
 use Rattle.iot_laptop.specs.Below.{is_on, PostStands, Post, Up, Down, no_text, Laptop, Seated, Stamps, nothing_held}
@@ -111,6 +114,10 @@ pub record StandsAnyhow {D : Type 0} (medium : Medium D) (laptop : Laptop D) : T
   pub machine : machine.Client
   pub stands : ClientStands medium scripts laptop machine
 
+-- once the borrow r ends, its client is what was last written through r
+abbrev pub LendsClient : (D : RattleType) → MutBor (Laptop D.Denot) → MutBor (Client D.Denot) → Fml
+LendsClient D s r = Lends (the_row D) (clients.the_row D) s r (λ w. record s.now { post = Up (record { client = w }) })
+
 -- this is its client, which is alive
 pub record IsLent {D : Type 0} (medium : Medium D) (laptop : Laptop D) (it : Client D) : Type 0 where
   pub post : laptop.post ≡ Up (record { client = it })
@@ -182,7 +189,6 @@ all_second m = record m { first = [] }
 -- its link is not up, and all that run are second class
 pub record IsCutLink {D : Type 0} (medium : Medium D) (old new : Laptop D) : Type 0 where
   pub place : SamePlace old new
-  pub name : new.name ≡ old.name
   pub stamps : stamps_in new ≡ stamps_in old
   pub disk : disk_in new ≡ disk_in old
   pub stands : (scripts : List Declared) (m : machine.Client) → ClientStands medium scripts old m

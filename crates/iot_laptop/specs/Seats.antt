@@ -1,5 +1,6 @@
 -- For which state of the machine a client stands as the keeper of a node, and the bytes of a disk.
-use Rattle.std.specs.Prelude.{◌≡◌, ℕ, List, [], Option, None, filter, is_some}
+use Rattle.std.specs.Prelude.{◌≡◌, ℕ, List, [], Option, None, if◌then◌else◌, is_some}
+use Rattle.std.specs.List.{list_all}
 use Rattle.iot_laptop.specs.Below.{Live, state_of, place_of, disk_of, records_of, live_of, stamps_of, Stamps, IsTied, Medium, State}
 use Rattle.iot_laptop.specs.Below.{StandWith, ClientState, Keeping, Seated, next}
 use Rattle.iot_standing.specs.Kept.{StateKept}
@@ -32,8 +33,9 @@ pub record Besides : Type 0 where
   pub begun : List Live
   pub lent : Option Stamps
 
+-- the script of each is known, or of none
 abbrev pub begun_of : List Live → List Live
-begun_of lives = filter (λ live. is_some live.code) lives
+begun_of lives = if list_all (λ live. is_some live.code) lives then lives else []
 
 abbrev pub besides : {D : Type 0} → Seated D → Besides
 besides seated = record { begun = begun_of (live_of seated.client); lent = lent_stamps (stamps_of seated.client) }

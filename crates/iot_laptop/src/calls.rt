@@ -17,7 +17,7 @@ use crate::verdict::Told;
 use iot_client::{ClientFault, Ended, Step};
 use iot_disk::{Disk, JournalFault};
 use iot_lang::Script;
-use iot_node::{Doubt, Halt, Post, Printed, Transaction};
+use iot_node::{Doubt, Halt, Printed, Transaction};
 use iot_text::{Name, NoMemory, Text};
 use iot_tree::OnConflict;
 use std::alloc::Global;
@@ -38,17 +38,13 @@ impl<D: Disk> Laptop<D> {
         requires brings { BringsTree (stamps_in self.old) reply.now }
         ensures does { (t : Nodes) → SpellsTree (stamps_in self.old) reply.now t
             → Changes D.medium (hold t) self.old self.new out.old out.new result }
-        ensures none { OnOk result ((state_in self.new).items ≡ []) }
         ensures running { OnOk result ((state_in self.new).running ≡ (state_in self.old).running) }
         ensures stamps { TakesStamps (stamps_in self.old) reply.now self.old self.new result }
         ensures place { SamePlace self.old self.new }
         ensures disk { KeepsDisk D.medium (disk_in self.old) (disk_in self.new) }
     {
         let count = self.records();
-        let answer = match &mut self.post {
-            Post::Up(seated) => seated.client.take_objects(alloc, reply),
-            Post::Down(_) | Post::Between => unreachable!(),
-        };
+        let answer = self.client_mut().take_objects(alloc, reply);
         self.goes_on(alloc, answer, count, out)
     }
 
@@ -59,22 +55,18 @@ impl<D: Disk> Laptop<D> {
         requires brings { BringsTree nothing_held reply.now }
         ensures does { (t : Nodes) → SpellsTree nothing_held reply.now t
             → Changes D.medium (hold t) self.old self.new out.old out.new result }
-        ensures none { OnOk result ((state_in self.new).items ≡ []) }
         ensures running { OnOk result ((state_in self.new).running ≡ (state_in self.old).running) }
         ensures stamps { TakesStamps nothing_held reply.now self.old self.new result }
         ensures place { SamePlace self.old self.new }
         ensures disk { KeepsDisk D.medium (disk_in self.old) (disk_in self.new) }
     {
         let count = self.records();
-        let answer = match &mut self.post {
-            Post::Up(seated) => seated.client.take_walk(alloc, reply),
-            Post::Down(_) | Post::Between => unreachable!(),
-        };
+        let answer = self.client_mut().take_walk(alloc, reply);
         self.goes_on(alloc, answer, count, out)
     }
 
     /// Holds what the reply brings for the transaction with this number, which begins anew.
-    #[tactic(auto, using(crate::proofs::NodesLaws::lent_at, crate::proofs::CallsLaws::none_bad, crate::proofs::RefusalsLaws::first_runs))]
+    #[tactic(auto, using(crate::proofs::CallsLaws::none_bad, crate::proofs::FindingLaws::first_runs))]
     pub fn fetched(
         &mut self,
         alloc: Global,
@@ -93,15 +85,12 @@ impl<D: Disk> Laptop<D> {
         ensures disk { KeepsDisk D.medium (disk_in self.old) (disk_in self.new) }
     {
         let count = self.records();
-        let answer = match &mut self.post {
-            Post::Up(seated) => seated.client.fetched(alloc, number, reply),
-            Post::Down(_) | Post::Between => unreachable!(),
-        };
+        let answer = self.client_mut().fetched(alloc, number, reply);
         self.goes_on(alloc, answer, count, out)
     }
 
     /// Begins its next transaction, which does this if it conflicts, first class or not, and gives its number.
-    #[tactic(auto, using(crate::proofs::RefusalsLaws::unrefused, crate::proofs::RefusalsLaws::not_busy))]
+    #[tactic(auto, using(crate::proofs::FindingLaws::unrefused, crate::proofs::FindingLaws::not_busy))]
     pub fn begin(
         &mut self,
         alloc: Global,
@@ -121,15 +110,12 @@ impl<D: Disk> Laptop<D> {
         ensures disk { KeepsDisk D.medium (disk_in self.old) (disk_in self.new) }
     {
         let count = self.records();
-        let answer = match &mut self.post {
-            Post::Up(seated) => seated.client.begin(alloc, name, script, option, first),
-            Post::Down(_) | Post::Between => unreachable!(),
-        };
+        let answer = self.client_mut().begin(alloc, name, script, option, first);
         self.goes_on(alloc, answer, count, out)
     }
 
     /// Does the next act of the transaction with this number, or gives why none is done. It is second class if transactions wait.
-    #[tactic(auto, using(crate::proofs::NodesLaws::lent_at, crate::proofs::RefusalsLaws::unrefused, crate::proofs::RefusalsLaws::not_idle))]
+    #[tactic(auto, using(crate::proofs::FindingLaws::unrefused, crate::proofs::FindingLaws::not_idle))]
     pub fn step(&mut self, alloc: Global, number: u64, out: &mut Text) -> Result<Step, Halt>
         requires stands { Stands D.medium self.old }
         requires place { self.old.place ≤ 7 }
@@ -141,15 +127,12 @@ impl<D: Disk> Laptop<D> {
         ensures disk { KeepsDisk D.medium (disk_in self.old) (disk_in self.new) }
     {
         let count = self.records();
-        let answer = match &mut self.post {
-            Post::Up(seated) => seated.client.step(alloc, number),
-            Post::Down(_) | Post::Between => unreachable!(),
-        };
+        let answer = self.client_mut().step(alloc, number);
         self.goes_on(alloc, answer, count, out)
     }
 
     /// Ends the transaction with this number, whose script has ended or may do no more acts: it waits, or starts again on the view.
-    #[tactic(auto, using(crate::proofs::NodesLaws::lent_at, crate::proofs::EndsLaws::end_fails))]
+    #[tactic(auto, using(crate::proofs::FindingLaws::unrefused, crate::proofs::FindingLaws::not_unended))]
     pub fn end(&mut self, alloc: Global, number: u64, out: &mut Text) -> Result<Certified, Halt>
         requires stands { Stands D.medium self.old }
         requires over { may_end_if_any (numbered number (state_in self.old).running)
@@ -164,13 +147,10 @@ impl<D: Disk> Laptop<D> {
         ensures disk { KeepsDisk D.medium (disk_in self.old) (disk_in self.new) }
     {
         let output = self.output(alloc, number)?;
+        let name = self.name;
         let count = self.records();
-        let answer = match &mut self.post {
-            Post::Up(seated) => seated.client.end(alloc, number),
-            Post::Down(_) | Post::Between => unreachable!(),
-        };
-        let told = certified(&self.name, output, answer);
-        self.goes_on(alloc, told, count, out)
+        let answer = self.client_mut().end(alloc, number);
+        certified(name, output, self.goes_on(alloc, answer, count, out))
     }
 
     /// What the transaction with this number has printed.
@@ -202,10 +182,7 @@ impl<D: Disk> Laptop<D> {
     {
         let told = self.told(alloc, reply)?;
         let count = self.records();
-        let answer = match &mut self.post {
-            Post::Up(seated) => seated.client.take_verdict(alloc, reply),
-            Post::Down(_) | Post::Between => unreachable!(),
-        };
+        let answer = self.client_mut().take_verdict(alloc, reply);
         match self.goes_on(alloc, answer, count, out) {
             Ok(_) => Ok(told),
             Err(halt) => Err(halt),
@@ -234,10 +211,7 @@ impl<D: Disk> Laptop<D> {
         ensures disk { KeepsDisk D.medium (disk_in self.old) (disk_in self.new) }
     {
         let count = self.records();
-        let answer = match &mut self.post {
-            Post::Up(seated) => seated.client.resolve(alloc, reply, script),
-            Post::Down(_) | Post::Between => unreachable!(),
-        };
+        let answer = self.client_mut().resolve(alloc, reply, script);
         self.goes_on(alloc, answer, count, out)
     }
 
@@ -251,10 +225,7 @@ impl<D: Disk> Laptop<D> {
         ensures disk { KeepsDisk D.medium (disk_in self.old) (disk_in self.new) }
     {
         let count = self.records();
-        let answer = match &mut self.post {
-            Post::Up(seated) => seated.client.repair(alloc, script),
-            Post::Down(_) | Post::Between => unreachable!(),
-        };
+        let answer = self.client_mut().repair(alloc, script);
         self.goes_on(alloc, answer, count, out)
     }
 
@@ -268,10 +239,7 @@ impl<D: Disk> Laptop<D> {
         ensures disk { KeepsDisk D.medium (disk_in self.old) (disk_in self.new) }
     {
         let count = self.records();
-        let answer = match &mut self.post {
-            Post::Up(seated) => seated.client.discard(alloc),
-            Post::Down(_) | Post::Between => unreachable!(),
-        };
+        let answer = self.client_mut().discard(alloc);
         self.goes_on(alloc, answer, count, out)
     }
 
@@ -299,18 +267,14 @@ impl<D: Disk> Laptop<D> {
 }
 
 /// What became of a transaction of the client of this name that was to end, and has printed this.
-fn certified(
-    name: &Name,
-    output: Text,
-    answer: Result<Ended, ClientFault>,
-) -> Result<Certified, ClientFault>
-    ensures { result ≡ certified_if name.now output answer }
+fn certified(name: Name, output: Text, answer: Result<Ended, Halt>) -> Result<Certified, Halt>
+    ensures { result ≡ certified_if name output answer }
 {
     match answer {
         Ok(Ended::Joined { tid, first }) => Ok(Certified::Joined(Gone {
             printed: Printed {
                 transaction: Transaction {
-                    client: *name,
+                    client: name,
                     number: tid,
                 },
                 output,
@@ -318,7 +282,7 @@ fn certified(
             first,
         })),
         Ok(Ended::Again { read, question }) => Ok(Certified::Again { read, question }),
-        Err(fault) => Err(fault),
+        Err(halt) => Err(halt),
     }
 }
 

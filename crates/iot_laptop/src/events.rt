@@ -21,7 +21,7 @@ impl<D: Disk> Laptop<D> {
     // ---- its link
 
     /// Makes its link up.
-    #[tactic(auto, using(crate::proofs::TrailsLaws::stays_trails))]
+    #[tactic(auto, using(crate::proofs::CallsLaws::stays_trails))]
     pub fn connect(&mut self, out: &mut Text) -> Result<(), NoMemory>
         ensures step { OnOk result ((scripts : List Declared)
             → Refines (ClientStands D.medium scripts) Connects self.old self.new out.old out.new tt) }
@@ -34,7 +34,7 @@ impl<D: Disk> Laptop<D> {
     }
 
     /// Makes its link not up. What runs is second class from then on.
-    #[tactic(auto, using(crate::proofs::TrailsLaws::stays_trails))]
+    #[tactic(auto, using(crate::proofs::CallsLaws::stays_trails))]
     pub fn disconnect(&mut self, out: &mut Text) -> Result<(), NoMemory>
         requires { StandsAnyhow D.medium self.old }
         ensures step { OnOk result ((scripts : List Declared)
@@ -48,7 +48,7 @@ impl<D: Disk> Laptop<D> {
     }
 
     /// Arms its link to lose a message.
-    #[tactic(auto, using(crate::proofs::TrailsLaws::stays_trails))]
+    #[tactic(auto, using(crate::proofs::CallsLaws::stays_trails))]
     pub fn lose(&mut self, loss: Loss, out: &mut Text) -> Result<(), NoMemory>
         ensures step { OnOk result ((scripts : List Declared)
             → Refines (ClientStands D.medium scripts) (Loses loss) self.old self.new out.old out.new tt) }

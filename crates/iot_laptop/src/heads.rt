@@ -1,7 +1,6 @@
 //! The first transaction that waits: what it needs of the server, and what is planned for it.
 ghost use Rattle.std.specs.Prelude.{◌≡◌, ◌≤◌, ℕ, true, IfOk};
-ghost use Rattle.iot_client.specs.Messages.{way_of};
-ghost use Rattle.iot_laptop.specs.Below.{HeadIs, IsSubmitted, acts_output};
+ghost use Rattle.iot_laptop.specs.Below.{HeadIs, IsSubmitted};
 ghost use Rattle.iot_queue.specs.declared.items.Stage.TheVariants.{Conflict as in_conflict};
 ghost use Rattle.iot_laptop.specs.Calls.{acts_in, label_in};
 ghost use Rattle.iot_laptop.specs.Messages.{IsVerdict};
@@ -66,26 +65,16 @@ impl<D: Disk> Laptop<D> {
         match self.client().submission(alloc) {
             Ok(Ask::Commit(request)) => Ok(Need::Verdict(Submitted {
                 request: request.into_bytes(),
-                printed: self.printed(alloc, item)?,
+                printed: Printed {
+                    transaction: self.transaction(item.tid),
+                    output: output_of(alloc, submitted(item))?,
+                },
                 way: way_of(item),
             })),
             Ok(Ask::Whole(request)) => Ok(Need::Tree(request.into_bytes())),
             Ok(Ask::Manual) => Ok(Need::Decision),
             Err(fault) => Err(memory(fault)),
         }
-    }
-
-    /// The transaction, and what the acts have printed that it submits.
-    fn printed(&self, alloc: Global, item: &Item) -> Result<Printed, NoMemory>
-        ensures { IfOk result (λ printed. printed ≡ record {
-          transaction = record { client = self.now.name; number = item.now.tid };
-          output = acts_output (acts_in item.now item.now.stage);
-        }) }
-    {
-        Ok(Printed {
-            transaction: self.transaction(item.tid),
-            output: output_of(alloc, submitted(item))?,
-        })
     }
 
     /// What the reply to the submission of the first that waits says of it.
@@ -134,18 +123,9 @@ fn submitted(item: &Item) -> &[Act]
 fn way_of(item: &Item) -> Way
     ensures { (place : ℕ) → result ≡ (label_in place item.now item.now.stage).way }
 {
-    match &item.stage {
-        Stage::Resolved(_) => resolved_way(item.option),
-        Stage::Waiting | Stage::Conflict | Stage::Manual => Way::Certified,
-    }
-}
-
-/// The way of a resolution.
-fn resolved_way(option: OnConflict) -> Way
-    ensures { result ≡ way_of option }
-{
-    match option {
-        OnConflict::Reexec => Way::Reexecuted,
-        OnConflict::Resolver(_) | OnConflict::Abort | OnConflict::Manual => Way::Resolved,
+    match (&item.stage, item.option) {
+        (Stage::Resolved(_), OnConflict::Reexec) => Way::Reexecuted,
+        (Stage::Resolved(_), _other) => Way::Resolved,
+        _unresolved => Way::Certified,
     }
 }

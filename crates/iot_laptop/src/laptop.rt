@@ -1,6 +1,7 @@
 //! A client that was declared, by its name and its place, and its link with the server.
 ghost use Rattle.std.specs.Prelude.{◌≡◌, ◌≤◌, ◌*◌, ◌&&◌, not, nat_lt, true, [], List, None, Some, IfOk, length, map, option_map};
 ghost use Rattle.std.specs.Option.{option_copied};
+ghost use Rattle.std.specs.Borrow.{sem};
 ghost use Rattle.iot_laptop.specs.Below.{IsRefresh, IsWalk, may_end_if_any, is_over_if_any, live_numbered, Declared, IsEmpty, counts_on};
 ghost use Rattle.iot_client.specs.declared.fault.ClientFault.TheVariants.{NoMemory as no_memory};
 ghost use Rattle.iot_machine.specs.Clients.{most_running};
@@ -32,7 +33,7 @@ pub struct Laptop<D: Disk> {
 impl<D: Disk> Laptop<D> {
     ghost use Rattle.iot_laptop.specs.Laptops.{is_alive, state_in, stamps_in, live_in, disk_in, lent_by, records_in, IsView};
     ghost use Rattle.iot_standing.specs.States.{waits_of};
-    ghost use Rattle.iot_laptop.specs.Laptops.{Stands, StandsAnyhow, FallenStands, IsLent, IsUnopened, unopened_laptop};
+    ghost use Rattle.iot_laptop.specs.Laptops.{Stands, StandsAnyhow, FallenStands, IsLent, LendsClient, IsUnopened, unopened_laptop};
 
     /// The client of this name at this place, on an empty disk. It was never started.
     pub fn unopened(name: Name, place: u64, disk: D) -> Laptop<D>
@@ -83,6 +84,19 @@ impl<D: Disk> Laptop<D> {
     {
         match &self.post {
             Post::Up(seated) => &seated.client,
+            Post::Down(_) | Post::Between => unreachable!(),
+        }
+    }
+
+    /// The client, which is alive, for a call that may change it.
+    #[tactic(auto, using(crate::proofs::NodesLaws::lent_at))]
+    pub(crate) fn client_mut(&mut self) -> &mut Client<D>
+        requires { Stands D.medium self.old }
+        ensures* writes_back { sem 𝓛 (LendsClient D.row self.entry result) }
+        ensures lent { IsLent D.medium self.old result.now }
+    {
+        match &mut self.post {
+            Post::Up(seated) => &mut seated.client,
             Post::Down(_) | Post::Between => unreachable!(),
         }
     }
@@ -176,6 +190,7 @@ impl<D: Disk> Laptop<D> {
     }
 
     /// The tree that it sees.
+    #[tactic(auto, using(iot_standing::proofs::StatesLaws::view_is))]
     pub fn view(&self) -> &Tree
         requires { Stands D.medium self.now }
         ensures { IsView D.medium result.now self.now }

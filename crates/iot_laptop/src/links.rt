@@ -6,7 +6,6 @@ ghost use Rattle.iot_link.specs.declared.passages.Passage.TheVariants.{Both};
 use crate::laptop::Laptop;
 use iot_disk::Disk;
 use iot_link::Passage;
-use iot_node::Post;
 
 impl<D: Disk> Laptop<D> {
     ghost use Rattle.iot_machine.specs.Machine.{break};
@@ -25,8 +24,8 @@ impl<D: Disk> Laptop<D> {
         ensures { IsCutLink D.medium self.old self.new }
     {
         self.link.disconnect();
-        if let Post::Up(seated) = &mut self.post {
-            seated.client.second();
+        if self.is_alive() {
+            self.second();
         }
     }
 
@@ -43,7 +42,7 @@ impl<D: Disk> Laptop<D> {
         let passage = self.link.outcome(server_up);
         match passage {
             Passage::Both => (),
-            Passage::Away | Passage::RequestLost | Passage::ReplyLost => self.second(),
+            _missed => self.second(),
         }
         passage
     }
@@ -60,14 +59,11 @@ impl<D: Disk> Laptop<D> {
     }
 
     /// All that run are second class from now on.
-    #[tactic(auto, using(crate::proofs::ClassesLaws::all_reclassed))]
+    #[tactic(auto, using(crate::proofs::NodesLaws::all_reclassed))]
     fn second(&mut self)
         requires { Stands D.medium self.old }
         ensures { Reclassed D.medium all_second self.old self.new }
     {
-        match &mut self.post {
-            Post::Up(seated) => seated.client.second(),
-            Post::Down(_) | Post::Between => unreachable!(),
-        }
+        self.client_mut().second();
     }
 }

@@ -41,21 +41,14 @@ pub(crate) fn say_cut(transaction: &Transaction, acts: u64, out: &mut Text) -> R
     out.append(b" acts\n")
 }
 
-/// One line that a script printed, after its bar.
-fn say_line(text: &Text, out: &mut Text) -> Result<(), NoMemory>
-    ensures { OnOk result (out.new ≡ out.old ++ output_line text.now) }
-{
-    out.push(b'|')?;
-    out.append_text(text)?;
-    out.push(b'\n')
-}
-
-/// The lines that one act printed.
+/// The lines that one act printed, each after its bar.
 fn say_lines(lines: &[Text], out: &mut Text) -> Result<(), NoMemory>
     ensures { OnOk result (out.new ≡ out.old ++ output lines.now) }
 {
     for line in lines {
-        say_line(line, out)?;
+        out.push(b'|')?;
+        out.append_text(line)?;
+        out.push(b'\n')?;
     }
     Ok(())
 }

@@ -1,6 +1,6 @@
 use Rattle.std.proofs.lemmas.Result.{IfOk-weaker}
 use Rattle.iot_laptop.specs.Below.{no_text}
-use Rattle.iot_laptop.proofs.TrailsLaws.{again_trails}
+use Rattle.iot_laptop.proofs.CallsLaws.{again_trails}
 use Rattle.iot_laptop.proofs.RestartLaws.{arms}
 use Rattle.iot_laptop.proofs.SeatsLaws.{besides_again}
 use Rattle.iot_laptop.proofs.laptop.Laptop.arm.Goals as goal

@@ -1,18 +1,15 @@
 use Rattle.std.proofs.Common.{rules}
 use Rattle.iot_laptop.proofs.CallsLaws.{called}
 use Rattle.iot_laptop.proofs.RunningLaws.{begins}
-use Rattle.iot_laptop.proofs.TrailsLaws.{noted_trails}
+use Rattle.iot_laptop.proofs.CallsLaws.{noted_trails}
 use Rattle.iot_laptop.proofs.laptop.Laptop.begin.Goals as goal
 
 pub returns : goal.returns
 returns g c =
     let is = c.begin-answer.ensures in
-    let call = called (rw c.in-Up.is at c.requires.stands.stands.node) c.in-Up.is c.goes_on.ensures.goes (search rules) in
-    record {
-      does =
-          begins call (record { name = c.args.name.now; code = c.args.script.value }) c.args.option c.args.first c.requires.script
-          is.number is.notes is.live is.stopped;
-      trails = noted_trails call _ is.notes (λ _. tt);
-      place = search rules;
-      disk = search rules;
-    }
+    let call = called c.client_mut.ensures.lent c.goes_on.ensures.goes c.records-count.ensures is.tied is.counts is.arms in
+    let does =
+    begins call (record { name = c.args.name.now; code = c.args.script.value }) c.args.option c.args.first c.requires.script is.number
+    is.notes is.live is.stopped in
+    let trails = noted_trails call _ is.notes (λ _. tt) in
+    search rules

@@ -1,6 +1,6 @@
 use Rattle.iot_laptop.specs.Below.{no_text}
 use Rattle.std.proofs.lemmas.Result.{IfOk-weaker}
-use Rattle.iot_laptop.proofs.TrailsLaws.{off_trails}
+use Rattle.iot_laptop.proofs.CallsLaws.{off_trails}
 use Rattle.iot_laptop.proofs.CallsLaws.{if_two}
 use Rattle.iot_laptop.proofs.RestartLaws.{crashes}
 use Rattle.iot_laptop.proofs.laptop.Laptop.crash.Goals as goal

@@ -1,14 +1,12 @@
-use Rattle.std.proofs.Common.{sym, rules}
+use Rattle.std.proofs.Common.{rules}
 use Rattle.iot_laptop.proofs.CallsLaws.{as_is, called, leaves}
-use Rattle.iot_laptop.proofs.TrailsLaws.{noted_trails}
+use Rattle.iot_laptop.proofs.CallsLaws.{noted_trails}
 use Rattle.iot_laptop.proofs.laptop.Laptop.discard.Goals as goal
 
 pub returns : goal.returns
 returns g c =
-    let call = called (rw c.in-Up.is at c.requires.stands.stands.node) c.in-Up.is c.goes_on.ensures.goes (search rules) in
-    record {
-      does = rw (sym (as_is c.goes_on.result)) (leaves call (search rules));
-      trails = rw (sym (as_is c.goes_on.result)) (noted_trails call _ c.discard-answer.ensures.notes (λ _. tt));
-      place = search rules;
-      disk = search rules;
-    }
+    let is = c.discard-answer.ensures in
+    let call = called c.client_mut.ensures.lent c.goes_on.ensures.goes c.records-count.ensures is.tied is.counts is.arms in
+    let does = rw (as_is c.goes_on.result) at (leaves call is.notes is.live is.stopped) in
+    let trails = rw (as_is c.goes_on.result) at (noted_trails call _ is.notes (λ _. tt)) in
+    record { does = does; trails = trails; place = search rules; disk = search rules }

@@ -1,6 +1,6 @@
-use Rattle.std.proofs.Common.{rules}
+use Rattle.std.proofs.Common.{refl, rules, sym}
 use Rattle.iot_laptop.proofs.CallsLaws.{called}
-use Rattle.iot_laptop.proofs.EndsLaws.{certified_behaves, end_trails, ends_by, is_done, is_gone, waits_then}
+use Rattle.iot_laptop.proofs.RunningLaws.{end_trails, ends_by, is_done, is_gone, waits_then}
 use Rattle.iot_laptop.proofs.laptop.Laptop.end.Goals as goal
 
 pub returns-in_err-output-clause-over : goal.returns-in_err-output-clause-over
@@ -10,14 +10,11 @@ pub returns : goal.returns
 returns g c =
     let is = c.end-answer.ensures in
     let out = c.in_ok-output.output in
-    let call = called (rw c.in-Up.is at c.requires.stands.stands.node) c.in-Up.is (rw c.certified-told.ensures at c.goes_on.ensures.goes)
-    (certified_behaves c.args.self.now.name out c.end-answer.result (search rules)) in
-    record {
-      over = is_done g.D.Disk.medium c.args.number c.args.self.now c.requires.over;
-      does = ends_by out call c.args.number is.ends is.live is.stopped;
-      gone = is_gone out call c.args.number is.ends is.live is.stopped c.in_ok-output.ensures;
-      waits = waits_then out call c.args.number is.ends is.live is.stopped;
-      trails = end_trails out call c.args.number is.ends is.live is.stopped;
-      place = search rules;
-      disk = search rules;
-    }
+    let call = called c.client_mut.ensures.lent c.goes_on.ensures.goes c.records-count.ensures is.tied is.counts is.arms in
+    let over = is_done g.D.Disk.medium c.args.number c.args.self.now c.requires.over in
+    let told = sym c.certified.ensures in
+    let does = rw told at (ends_by _ c.args.number call out is.ends is.live is.stopped c.goes_on.result refl) in
+    let gone = rw told at (is_gone _ c.args.number call out is.ends is.live is.stopped c.in_ok-output.ensures c.goes_on.result refl) in
+    let waits = rw told at (waits_then _ c.args.number call out is.ends is.live is.stopped c.goes_on.result refl) in
+    let trails = rw told at (end_trails _ c.args.number call out is.ends is.live is.stopped c.goes_on.result refl) in
+    record { over = over; does = does; gone = gone; waits = waits; trails = trails; place = search rules; disk = search rules }

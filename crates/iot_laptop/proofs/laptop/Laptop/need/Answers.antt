@@ -10,7 +10,6 @@ use Rattle.iot_laptop.specs.Calls.{IsNeed, access_in, acts_in, label_in}
 use Rattle.iot_laptop.specs.Laptops.{state_in}
 use Rattle.iot_laptop.specs.declared.needs.Need.TheVariants as needs
 use Rattle.iot_laptop.specs.declared.needs.Submitted.{Submitted}
-use Rattle.iot_node.specs.declared.lines.Printed.{Printed}
 use Rattle.iot_queue.specs.declared.items.Stage.TheVariants as stages
 use Rattle.iot_wire.specs.Messages.{IsMessage}
 use Rattle.iot_wire.specs.Rules.{IsRequest}
@@ -31,35 +30,22 @@ asked_in place s item other bytes it = absurd it
 -- the first of these items is handed in so
 handed_in : {D : Type 0} (laptop : Laptop D) (items : List Item) (item : Item) (it : Submitted) → head_of items ≡ Some item
     → IsSubmission laptop.place (state_in laptop).held (state_in laptop).access items (asks.Commit it.request.items)
-    → it.printed ≡ record {
-      transaction = record { client = laptop.name; number = item.tid };
-      output = acts_output (acts_in item item.stage);
-    }
-    → it.way ≡ (label_in laptop.place item item.stage).way → HeadIs (λ item. IsNeed laptop item (needs.Verdict it)) items
-handed_in laptop [] item it head asks printed way = absurd asks
-handed_in laptop (first ∷ items) item it head asks printed way =
+    → it.printed.transaction ≡ record { client = laptop.name; number = item.tid }
+    → it.printed.output ≡ acts_output (acts_in item item.stage) → it.way ≡ (label_in laptop.place item item.stage).way
+    → HeadIs (λ item. IsNeed laptop item (needs.Verdict it)) items
+handed_in laptop [] item it head asks transaction output way = absurd asks
+handed_in laptop (first ∷ items) item it head asks transaction output way =
     let same = same_Some first item head in
     let asked = asked_in laptop.place (state_in laptop) item item.stage it.request.items (rw same at asks) in
-    rw same (record {
-      submitted = asked.0;
-      asked = asked.1;
-      transaction = ap (λ (p : Printed). p.transaction) printed;
-      output = ap (λ (p : Printed). p.output) printed;
-      way = way;
-    })
+    rw same (record { submitted = asked.0; asked = asked.1; transaction = transaction; output = output; way = way })
 
-pub returns-in_ok-printed-in-Ok-Commit : goal.returns-in_ok-printed-in-Ok-Commit
-returns-in_ok-printed-in-Ok-Commit g c =
+pub returns-in_ok-output_of-in-Ok-Commit : goal.returns-in_ok-output_of-in-Ok-Commit
+returns-in_ok-output_of-in-Ok-Commit g c =
     let laptop = c.args.self.now in
-    let it : Submitted = record {
-      request = c.into_bytes.result;
-      printed = c.in_ok-printed-in-Ok-Commit.field-0;
-      way = c.way_of.result;
-    } in
     let head =
     sym (ap (λ (s : State). head_of s.items) c.client.ensures.state) ∙ ap head_of (sym c.queue.ensures) ∙ sym c.head.ensures
     ∙ ap option_copied c.in-Some.is in
     let client = c.client-2.ensures in
-    handed_in laptop (state_in laptop).items c.in-Some.item.now it head
+    handed_in laptop (state_in laptop).items c.in-Some.item.now _ head
     (rw (c.into_bytes.ensures, sym client.place, sym client.state) (rw c.in-Ok-Commit.field-0-is at c.in-Ok-Commit.ensures.request))
-    c.in_ok-printed-in-Ok-Commit.ensures (c.way_of.ensures laptop.place)
+    c.transaction.ensures (c.in_ok-output_of-in-Ok-Commit.ensures ∙ ap acts_output c.submitted.ensures) (c.way_of.ensures laptop.place)

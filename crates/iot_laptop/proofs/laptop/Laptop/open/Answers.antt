@@ -1,6 +1,6 @@
 use Rattle.iot_laptop.specs.Below.{no_text}
 use Rattle.std.proofs.lemmas.Result.{IfOk-weaker}
-use Rattle.iot_laptop.proofs.TrailsLaws.{fresh_trails}
+use Rattle.iot_laptop.proofs.CallsLaws.{fresh_trails}
 use Rattle.iot_laptop.proofs.RestartLaws.{opens}
 use Rattle.iot_laptop.proofs.laptop.Laptop.open.Goals as goal
 

@@ -1,12 +1,8 @@
-use Rattle.iot_laptop.proofs.RestartLaws.{not_through, is_over}
+use Rattle.iot_laptop.proofs.RestartLaws.{is_over}
 use Rattle.iot_laptop.proofs.laptop.Laptop.pass.Goals as goal
 
-pub returns-in-Away : goal.returns-in-Away
-returns-in-Away g c = record {
-  passage = c.outcome-passage.ensures.passage;
-  after =
-      is_over g.D.Disk.medium c.args.self.now c.outcome-passage.result c.outcome-passage.new.self c.second.new.self
-      c.outcome-passage.ensures.link c.in-Away.is c.second.ensures;
-  both = λ is. absurd (not_through c.outcome-passage.result c.in-Away.is is);
-  disk = c.second.ensures.disk;
-}
+pub returns-in_default : goal.returns-in_default
+returns-in_default g c =
+    let is = c.outcome-passage.ensures in
+    let after = is_over g.D.Disk.medium c.args.self.now _ _ c.second.new.self is.link c.in_default.not-Both c.second.ensures in
+    record { passage = is.passage; after = after; both = λ is. absurd (c.in_default.not-Both is); disk = c.second.ensures.disk }

@@ -1,7 +1,7 @@
 use Rattle.std.proofs.Common.{◌≡◌, Bool, sym, subst, rules, ◌∙◌}
 use Rattle.std.proofs.lemmas.Result.{IfOk-weaker}
 use Rattle.iot_laptop.specs.Below.{no_text}
-use Rattle.iot_laptop.proofs.TrailsLaws.{fresh_trails}
+use Rattle.iot_laptop.proofs.CallsLaws.{fresh_trails}
 use Rattle.iot_laptop.proofs.RestartLaws.{CameBack, says_up, stops_again, came_again, is_back, comes_back, came_back}
 use Rattle.iot_laptop.proofs.RestartLaws.{keeps_then}
 use Rattle.iot_laptop.proofs.laptop.Laptop.restart.Given.{Over}
@@ -17,7 +17,6 @@ back g c on is =
       off = sym c.is_alive.ensures ∙ c.if-is_alive.false;
       steps = rw called at (c.in_ok-come_back.ensures.step no_text);
       is = c.in_ok-come_back.ensures.on;
-      live = c.in_ok-come_back.ensures.live;
       came = rw called at (c.in_ok-come_back.ensures.came no_text);
     })
 
@@ -31,13 +30,9 @@ cut_off-requires g c = is_back _ _ _ _ _ (back g (goal.at.cut_off-requires g c).
 pub returns-then-not-branch : goal.returns-then-not-branch
 returns-then-not-branch g c =
     let on = back g (goal.at.returns-then-not-branch g c).In_ok-come_back _ c.if-not-branch.true in
-    record {
-      step = stops_again _ _ _ _ _ on;
-      came = λ down. came_again _ _ _ _ _ on;
-      trails = fresh_trails c.args.self.now c.come_back.new.self c.in_ok-come_back.field-0 c.in_ok-come_back.ensures.live;
-      place = search rules;
-      disk = search rules;
-    }
+    let trails = fresh_trails c.args.self.now c.come_back.new.self c.in_ok-come_back.field-0 c.in_ok-come_back.ensures.live in
+    let step = stops_again _ _ _ _ _ on in
+    record { step = step; came = λ _. came_again _ _ _ _ _ on; trails = trails; place = search rules; disk = search rules }
 
 pub returns : goal.returns
 returns g c =

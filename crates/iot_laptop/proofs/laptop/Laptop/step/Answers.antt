@@ -1,16 +1,13 @@
 use Rattle.std.proofs.Common.{refl, rules}
 use Rattle.iot_laptop.proofs.CallsLaws.{called}
-use Rattle.iot_laptop.proofs.StepsLaws.{next_by, step_trails, steps_by}
+use Rattle.iot_laptop.proofs.RunningLaws.{next_by, step_trails, steps_by}
 use Rattle.iot_laptop.proofs.laptop.Laptop.step.Goals as goal
 
 pub returns : goal.returns
 returns g c =
     let is = c.step-answer.ensures in
-    let call = called (rw c.in-Up.is at c.requires.stands.stands.node) c.in-Up.is c.goes_on.ensures.goes (search rules) in
-    record {
-      next = next_by call c.args.number is.step is.live is.stopped c.goes_on.result refl;
-      does = steps_by call c.args.number is.step is.live is.stopped c.goes_on.result refl;
-      trails = step_trails call c.args.number is.step is.live is.stopped;
-      place = search rules;
-      disk = search rules;
-    }
+    let call = called c.client_mut.ensures.lent c.goes_on.ensures.goes c.records-count.ensures is.tied is.counts is.arms in
+    let next = next_by _ c.args.number call is.step is.live is.stopped c.goes_on.result refl in
+    let does = steps_by _ c.args.number call is.step is.live is.stopped c.goes_on.result refl in
+    let trails = step_trails _ c.args.number call is.step is.live is.stopped in
+    search rules

@@ -8,10 +8,9 @@ returns-in-Ok-clause-comes g c =
 
 pub returns-in-Err-clause-fails : goal.returns-in-Err-clause-fails
 returns-in-Err-clause-fails g c =
-    seat_fails g.D.Disk.medium c.args.disk c.args.place c.in-Err.refused.1 c.in-Err.refused.0 c.requires.can
-    c.in-Err.ensures.never
-    c.in-Err.ensures.cause
-    c.in-Err.ensures.images c.in-Err.ensures.arms
+    let is = c.in-Err.ensures in
+    seat_fails g.D.Disk.medium c.args.disk c.args.place c.in-Err.refused.1 c.in-Err.refused.0 c.requires.can is.never is.cause is.images
+    is.arms
 
 pub returns-in-Ok-clause-live : goal.returns-in-Ok-clause-live
 returns-in-Ok-clause-live g c = seat_fresh g.D.Disk.medium c.args.disk c.in-Ok.client c.in-Ok.ensures.live c.in-Ok.ensures.stamps
