@@ -12,17 +12,16 @@ use Rattle.iot_machine.specs.Clients as clients
 use Rattle.iot_disk.specs.Disk.{Storing}
 use Rattle.iot_machine.proofs.StepsLaws as calls
 use Rattle.iot_server_node.proofs.ServersLaws as servers
-use Rattle.iot_laptop.proofs.CallsLaws as laptops
 use Rattle.iot_laptop.proofs.RestartLaws as restarts
 use Rattle.iot_exchange.specs.Words.{unless_over, begin, Starts, StandsAnyhow, StartsAlone, set_class, EndsAlone, Medium, Call, Try, Gets}
 use Rattle.iot_exchange.specs.Words.{Asks, Answers, Tells, Then, Goes, either, Repeats, OrSays, or_text, Declared, ClientState, Client}
 use Rattle.iot_exchange.specs.Words.{Pair, OnConflict, unless_stopped, Notes, KeepsDisk, StepsTo, Halt, NoMemory, Over, disk_of}
-use Rattle.iot_exchange.specs.Words.{ServerStands, ServerNode, Stands, awake, disk_in, SamePlace, Laptop, NotesAlone, Whole}
+use Rattle.iot_exchange.specs.Words.{ServerStands, ServerNode, awake, disk_in, SamePlace, Laptop, NotesAlone, Whole}
 use Rattle.iot_exchange.specs.Words.{is_alive, fallen, Nodes, after_acts, Item, is_drained, IfUp, line, pends, runs, SyncsAll, ItemsStand}
 use Rattle.iot_exchange.specs.Words.{on_both}
 use Rattle.iot_exchange.specs.Words.{KeepsTrails, UnlessNoMemory, state_in, stamps_in, waits_of, ClientStands, done, has_any, kept}
 use Rattle.iot_exchange.specs.Words.{Compared, Compares, Yields, yield_if, YieldsAlone, YieldsAndNotes, yields_by, yielding}
-use Rattle.iot_exchange.specs.Words.{CertifiesAlone, ComparesAlone, certify_alone, change_by, notes_found}
+use Rattle.iot_exchange.specs.Words.{CertifiesAlone, ComparesAlone, certify_alone, change_by}
 use Rattle.iot_laptop.specs.Alone as alone
 use Rattle.iot_machine.specs.Transactions as machine
 use Rattle.iot_judging.specs.Lists.{Follows}
@@ -34,7 +33,6 @@ use Rattle.iot_exchange.specs.Queues.{SyncsNext}
 use Rattle.iot_machine.proofs.StepsLaws.{at_each, joined, quiet}
 use Rattle.iot_exchange.proofs.StepsLaws.{answers_from, asks_from, behind, refuses_from, says_from}
 use Rattle.iot_exchange.proofs.StepsLaws.{then_from}
-use Rattle.iot_exchange.proofs.StepsLaws as steps
 
 -- a call that leaves the client alive
 abbrev pub StepsOn : {D A : Type 0} → Medium D → List Declared → (names : List (List ℕ)) → (c : ℕ) → Call Pair A → (u v : Both D)
@@ -71,45 +69,37 @@ module _ {P I : Type 0} (storing : Storing P I) where
   keeps_new {new = new} keeps = keeps_there new (ap is_some keeps.new_has)
 
 module _ {D : Type 0} {medium : Medium D} where
+  -- it still has what it has afterwards
+  served_now : {old new : ServerNode D} → KeepsServed medium old new → KeepsServed medium new new
+  served_now keeps = record {
+    server = keeps_new (on_both medium) keeps.server;
+    beside = λ promoted arms had. had;
+    records = records_same (on_both medium) _ _ refl;
+  }
+
   pub keeps_then : {u v w : Both D} → KeepsDisks medium u v → KeepsDisks medium v w → KeepsDisks medium u w
   keeps_then one other = record {
     client = restarts.keeps_then medium _ _ _ one.client other.client;
-    server = restarts.keeps_then (on_both medium) _ _ _ one.server other.server;
-    beside = λ promoted arms had. other.beside promoted arms (one.beside promoted arms had);
-    records = records_then (on_both medium) _ _ _ one.records other.records;
+    served = record {
+      server = restarts.keeps_then (on_both medium) _ _ _ one.server other.server;
+      beside = λ promoted arms had. other.beside promoted arms (one.beside promoted arms had);
+      records = records_then (on_both medium) _ _ _ one.records other.records;
+    };
   }
 
   -- so has each its disks afterwards
   pub keeps_now : {u v : Both D} → KeepsDisks medium u v → KeepsDisks medium v v
-  keeps_now keeps = record {
-    client = keeps_new medium keeps.client;
-    server = keeps_new (on_both medium) keeps.server;
-    beside = λ promoted arms had. had;
-    records = records_same (on_both medium) _ _ refl;
-  }
+  keeps_now keeps = record { client = keeps_new medium keeps.client; served = served_now keeps.served }
 
   -- and after one more call of the client alone
   pub keeps_more : {u v : Both D} {laptop : Laptop D} → KeepsDisks medium u v → KeepsDisk medium (disk_in v.laptop) (disk_in laptop)
       → KeepsDisks medium u (two laptop v.server)
-  keeps_more keeps more = keeps_then keeps (record {
-    client = more;
-    server = keeps_new (on_both medium) keeps.server;
-    beside = λ promoted arms had. had;
-    records = records_same (on_both medium) _ _ refl;
-  })
+  keeps_more keeps more = keeps_then keeps (record { client = more; served = served_now keeps.served })
 
   -- the client's is the same
   pub keeps_served : {u : Both D} {laptop : Laptop D} {server : ServerNode D} → KeepsDisks medium u u → disk_in laptop ≡ disk_in u.laptop
       → KeepsServed medium u.server server → KeepsDisks medium u (two laptop server)
-  keeps_served keeps same served =
-      record { client = rw same keeps.client; server = served.server; beside = served.beside; records = served.records }
-
-  pub keeps_passed : {u : Both D} {laptop : Laptop D} → KeepsDisks medium u u → disk_in laptop ≡ disk_in u.laptop
-      → KeepsDisks medium u (two laptop u.server)
-  keeps_passed keeps same = keeps_served keeps same (record { server = keeps.server; beside = keeps.beside; records = keeps.records })
-
-  pub laptop_keeps : {laptop : Laptop D} → Stands medium laptop → KeepsDisk medium (disk_in laptop) (disk_in laptop)
-  laptop_keeps {laptop} here = laptops.keeps_same medium laptop.post (is_awake medium here.scripts laptop here.machine here.stands)
+  keeps_served keeps same served = record { client = rw same keeps.client; served = served }
 
   -- ---- alive or down
 
@@ -125,11 +115,11 @@ module _ {D : Type 0} {medium : Medium D} where
     pub keeps_standing : AnyStands medium scripts names c u pair → KeepsDisks medium u u
     keeps_standing here = record {
       client = restarts.keeps_any medium u.laptop (anyhow here);
-      server =
-          keeps_there (on_both medium) (disk_of u.server)
-          (servers.has_disk medium names u.server.post pair.server here.server.post);
-      beside = λ promoted arms had. had;
-      records = records_same (on_both medium) (disk_of u.server) (disk_of u.server) refl;
+      served = record {
+        server = keeps_there (on_both medium) (disk_of u.server) (servers.has_disk medium names u.server.post pair.server here.server.post);
+        beside = λ promoted arms had. had;
+        records = records_same (on_both medium) (disk_of u.server) (disk_of u.server) refl;
+      };
     }
 
     pub ready_by : UpStands medium scripts names c u pair → IsReadyWith medium scripts u
@@ -159,8 +149,7 @@ module _ {D : Type 0} {medium : Medium D} {scripts : List Declared} where
 
   pub each_from : {A : Type 0} {call : Try Pair A} {u v : Both D} {x y : List ℕ} {result : Result A Halt} → KeepsDisks medium u v
       → ((names : List (List ℕ)) (c : ℕ) (pair : Pair) → UpStands medium scripts names c u pair
-      → DoesFrom medium scripts names c call pair v x y result)
-      → Does medium scripts call u v x y result
+      → DoesFrom medium scripts names c call pair v x y result) → Does medium scripts call u v x y result
   each_from keeps each = record { step = each; disks = keeps }
 
   -- from one pair, by which what follows may go
@@ -226,8 +215,7 @@ module _ {D : Type 0} {medium : Medium D} {scripts : List Declared} where
   then_answers {f = f} was is it = rw is (goes_then {next = λ a. Answers (Some (f a))} was it (answers it.disks))
 
   pub then_tells : {A B : Type 0} {one : Try Pair A} {text : Pair → List ℕ} {u v : Both D} {x y z : List ℕ} {a : A} {b : B}
-      {inner : Result A Halt} → inner ≡ Ok a → Does medium scripts one u v x y inner
-      → OfEach medium scripts v (λ pair. z ≡ y ++ text pair)
+      {inner : Result A Halt} → inner ≡ Ok a → Does medium scripts one u v x y inner → OfEach medium scripts v (λ pair. z ≡ y ++ text pair)
       → Does medium scripts (Goes one (λ _. Tells text (Some b))) u v x z (Ok b)
   then_tells was it wrote = goes_then was it (tells it.disks wrote)
 
@@ -358,13 +346,10 @@ certifying (Some it) = Then (Yields it.number) (λ _. Then (Compares it) (noted 
 abbrev pub Certifying : (number : ℕ) → Try Pair Compared
 Certifying number = Then (Asks (λ pair. clients.numbered number (kept pair))) certifying
 
-lift_noted : (number : ℕ) (found : Compared) → Lifts (notes_found number found) (noted number found)
-lift_noted number found =
-    lift_then (notes (change_by number found)) (lift_unless (λ _. lift_gets (λ _. Some found) (λ m. m) (λ m. refl)))
-
 lift_certifying : (o : Option clients.Running) → Lifts (certify_alone o) (certifying o)
 lift_certifying None = lift_gets (λ _. None) (λ m. m) (λ m. refl)
-lift_certifying (Some it) = lift_then (yields it.number) (λ _. lift_then (compares it) (lift_noted it.number))
+lift_certifying (Some it) = lift_then (yields it.number) (λ _. lift_then (compares it) (λ found.
+    lift_then (notes (change_by it.number found)) (lift_unless (λ _. lift_gets (λ _. Some found) (λ m. m) (λ m. refl)))))
 
 pub certifies_one : (number : ℕ) → Lifts (CertifiesAlone number) (Certifying number)
 certifies_one number = lift_then (lift_gets (λ client. clients.numbered number client.node.durable) (λ m. m) (λ m. refl)) lift_certifying
@@ -381,26 +366,7 @@ pub unless_done : {A : Type 0} (P : Type 0) (result : Result A Halt) → UnlessN
 unless_done P (Ok a) so = so
 unless_done P (Err halt) so = so
 
-unless_more : {A P Q : Type 0} (result : Result A Halt) → (P → Q) → Unless result P → Unless result Q
-unless_more (Err NoMemory) more so = tt
-unless_more result more so = more so
-
 module _ {D : Type 0} {medium : Medium D} where
-  lifted : {A : Type 0} {one : Try Client A} {call : Try Pair A} {P Q : Laptop D → Client → Type 0} {old new : Laptop D}
-      {server : ServerNode D} {x y : List ℕ} {a : Option A} {names : List (List ℕ)} {c : ℕ} {pair : Pair} → Lifts one call
-      → SamePlace old new → PairStands c (IsAt P names c) (ServerStands medium names) (two old server) pair
-      → Follows (stamps_in new) pair.server.durable → StepsTo P Q one old new x y a
-      → StepFrom (PairStands c (IsAt Q names c) (ServerStands medium names)) call pair (two new server) x y a
-  lifted {a = a} {pair = pair} lifts place here follows it =
-      let t = it.step pair.client here.client.is in
-      let did = lifts.lift pair t.0 a t.1 t.3 in record {
-        text = t.0;
-        next = record pair { client = t.1 };
-        wrote = t.2;
-        step = did.0;
-        stands = in_place here t.4 place did.1 follows;
-      }
-
   module _ {A : Type 0} {scripts : List Declared} {one : Try Client A} {call : Try Pair A} {u v : Both D} {new : Laptop D} {x y : List ℕ}
     where
       -- what it holds then still follows the server's list
@@ -411,7 +377,17 @@ module _ {D : Type 0} {medium : Medium D} where
       by_call {result = Err NoMemory} lifts keeps place follows it more =
           record { step = λ names c pair here. record { is = tt }; disks = keeps_more (keeps_now keeps) more }
       by_call lifts keeps place follows it more = record {
-        step = λ names c pair here. record { is = lifted lifts place here (follows names c pair here) it.is };
+        step = λ names c pair here.
+            let t = it.is.step pair.client here.client.is in
+            let did = lifts.lift pair t.0 _ t.1 t.3 in record {
+              is = record {
+                text = t.0;
+                next = record pair { client = t.1 };
+                wrote = t.2;
+                step = did.0;
+                stands = in_place here t.4 place did.1 (follows names c pair here);
+              };
+            };
         disks = keeps_more (keeps_now keeps) more;
       }
 
@@ -419,8 +395,9 @@ module _ {D : Type 0} {medium : Medium D} where
       pub by_client : {result : Result A Halt} → Lifts one call → KeepsDisks medium u v → SamePlace v.laptop new
           → Unless result (KeepsTrails v.laptop new) → EndsAlone medium scripts one v.laptop new x y result
           → KeepsDisk medium (disk_in v.laptop) (disk_in new) → Does medium scripts call v (two new v.server) x y result
-      by_client {result} lifts keeps place trails it more = by_call lifts keeps place
-          (unless_more result (λ kept names c pair here. follows_kept _ _ pair.server.durable kept here.follows) trails) it more
+      by_client {result = Err NoMemory} lifts keeps place trails it more = by_call lifts keeps place tt it more
+      by_client lifts keeps place trails it more =
+          by_call lifts keeps place (λ names c pair here. follows_kept _ _ pair.server.durable trails here.follows) it more
 
 -- ---- again and again
 
@@ -464,8 +441,7 @@ module _ {D : Type 0} {medium : Medium D} {scripts : List Declared} {most : ℕ}
 
     -- no more are to be made
     pub all_rounds : most ≤ done → KeepsDisks medium v v → Does medium scripts (Repeats most round) u v x y (Ok tt)
-    all_rounds all keeps = so_far.whole v y (Ok tt)
-        (let none : most - done ≡ 0 = omega (arith, all) in rw none (answers keeps))
+    all_rounds all keeps = so_far.whole v y (Ok tt) (let none : most - done ≡ 0 = omega (arith, all) in rw none (answers keeps))
 
 -- ---- a text if nothing was said
 
@@ -541,8 +517,7 @@ module _ {D : Type 0} {medium : Medium D} {scripts : List Declared} {u : Both D}
     module _ {v : Both D} {inner : Result (Unit {0}) Halt} (alive : is_alive u.laptop ≡ true)
         (it : Does medium scripts call u v x y inner) where
       if_up : ((pair : Pair) → UpStands medium scripts names c u pair
-          → StepFrom (AnyStands medium scripts names c) (Whole call) pair v x y tt)
-          → IsTask medium scripts names c call u v x y
+          → StepFrom (AnyStands medium scripts names c) (Whole call) pair v x y tt) → IsTask medium scripts names c call u v x y
       if_up each = calls.bind {a = true} (calls.asks (λ pair here. sym alive ∙ alive_is here.client.is))
           (at_each (λ pair here. each pair (up_there alive here)))
 

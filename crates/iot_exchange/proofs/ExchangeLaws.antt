@@ -1,15 +1,11 @@
 -- An exchange of a client with the server; what a client asks for, and holds if it comes; and what it knows of its transactions.
-use Rattle.std.proofs.Common.{◌≡◌, ℕ, List, ◌++◌, Option, Some, None, Result, Ok, Err, Bool, true, false, Vec, refl, sym, ap, subst}
+use Rattle.std.proofs.Common.{◌≡◌, ℕ, List, ◌++◌, Option, Some, None, Result, Ok, Err, Bool, false, Vec, refl, sym, ap, subst}
 use Rattle.std.proofs.Common.{◌∙◌, []}
 use Rattle.std.proofs.Common.{◌∷◌, ◌<◌, ◌^◌, length, arith}
-use Rattle.std.proofs.lemmas.Bool.{ltb-true}
 use Rattle.std.specs.Prelude.{not, nat_lt}
 use Rattle.std.specs.declared.alloc.Global.{Global}
 use Rattle.iot_server_node.proofs.ServersLaws.{up_is}
 use Rattle.iot_standing.proofs.StatesLaws.{many_is, runs_is, waits_is}
-use Rattle.iot_link.specs.Links.{passage_by}
-use Rattle.iot_link.specs.declared.passages.Loss.{Loss}
-use Rattle.iot_link.specs.declared.passages.Loss.TheVariants as losses
 use Rattle.iot_exchange.specs.Words.{has_any, is_full, most_running}
 use Rattle.iot_exchange.specs.Words.{passage, Passage, Away, RequestLost, ReplyLost, Both as Reaches, At, its_server, break}
 use Rattle.iot_exchange.specs.Words.{Handles, exchange_by, Brings, holds, HavingAnswered, ServesBy, Served, Relinked, after_passage, Nodes}
@@ -21,7 +17,7 @@ use Rattle.iot_exchange.specs.Words.{Laptop, SpellsTree, BringsTree, AsksAll, Is
 use Rattle.iot_exchange.specs.Words.{Stamps, TakesStamps, new_client, nodes_of, nothing_held, reply_spelling, stamps_in}
 use Rattle.iot_exchange.specs.Words.{stamps_of}
 use Rattle.iot_exchange.specs.Pairs.{Both, two, IsAt, UpStands, Query, Objects, Judgment, AsksFor, Spells, request_of, Serves, Exchanges}
-use Rattle.iot_exchange.specs.Pairs.{Asked, Came, KeepsDisks, Does, IfReplied, answered}
+use Rattle.iot_exchange.specs.Pairs.{Asked, Came, KeepsDisks, Does, IfReplied, PairStands, answered}
 use Rattle.iot_exchange.proofs.DoesLaws.{StepsOn, in_place, OfEach, then_does, answers, by_call, notes, Unless}
 use Rattle.iot_machine.proofs.StepsLaws.{bind, gets, asks}
 use Rattle.iot_exchange.specs.Words.{Changes as ChangesAlone, KeepsDisk, Notes, SamePlace, disk_in}
@@ -61,11 +57,7 @@ module _ {D : Type 0} (medium : Medium D) (message : Message) (old new : ServerN
       → ServesBy medium names call Spelled message.handed (Some served) old new x mid
       → Serves (ServerStands medium names) Spelled call (Some served.reply) old new x y
   replies served wrote it = record {
-    is = (
-      it.1.0,
-      it.1.1,
-      λ n. rw (wrote ∙ ap (λ (z : List ℕ). z ++ said_of served.committed message.handed) it.0) (it.1.2 n x),
-    );
+    is = (it.1.0, it.1.1, λ n. rw (wrote ∙ ap (λ (z : List ℕ). z ++ said_of served.committed message.handed) it.0) (it.1.2 n x));
   }
 
 -- ---- how far a message gets
@@ -76,26 +68,27 @@ same_name p m = refl
 
 -- ---- what the server makes of it
 
--- a request that the server answered counts
+-- the server has answered, and so many more are to be counted
+abbrev AnsweredBy : {D : Type 0} → Medium D → List Declared → (names : List (List ℕ)) → (c : ℕ) → (ℕ → ℕ) → Both D → Pair → Type 0
+AnsweredBy medium scripts names c count =
+    PairStands c (IsAt (LaptopStands medium scripts) names c) (λ server node n. ServerStands medium names server node (count n))
+
+-- a request that it answered counts
 counts : {D A : Type 0} {medium : Medium D} {scripts : List Declared} {names : List (List ℕ)} {c : ℕ} (a : Option A) {w : Both D}
-    {z : List ℕ} → StepsTo (λ w pair. (pair.place ≡ c) × IsAt (LaptopStands medium scripts) names c w.laptop pair.client
-    × ServerStands medium names w.server pair.server (answered a pair.requests) × Follows (stamps_in w.laptop) pair.server.durable)
-    (UpStands medium scripts names c) (counted a) w w z z a
-counts None = gets (λ pair here. (refl, record { place = here.0; client = here.1; server = here.2; follows = here.3 }))
-counts (Some a) = gets (λ pair here. (refl, record { place = here.0; client = here.1; server = here.2; follows = here.3 }))
+    {z : List ℕ} → StepsTo (AnsweredBy medium scripts names c (answered a)) (UpStands medium scripts names c) (counted a) w w z z a
+counts None = gets (λ pair here. (refl, here))
+counts (Some a) =
+    gets (λ pair here. (refl, record { place = here.place; client = here.client; server = here.server; follows = here.follows }))
 
 module _ {D A : Type 0} {medium : Medium D} {scripts : List Declared} {names : List (List ℕ)} {c : ℕ} {server later : ServerNode D}
     {request : Call (Node (List Commit)) (Option A)} {x y : List ℕ} {laptop : Laptop D}
     (grows : (node after : Node (List Commit)) (text : List ℕ) (a : Option A) → request node text a after
     → Grows node.durable after.durable) where
-  -- it alone does it, and counts so many more
+  -- it alone does it
   by_server : {a : Option A} (count : ℕ → ℕ)
       → ((n : ℕ) → StepsTo (HavingAnswered medium names n) (HavingAnswered medium names (count n)) request server later x y a)
-      → StepsTo (UpStands medium scripts names c)
-      (λ w pair. (pair.place ≡ c) × IsAt (LaptopStands medium scripts) names c w.laptop pair.client
-      × ServerStands medium names w.server pair.server (count pair.requests)
-      × Follows (stamps_in w.laptop) pair.server.durable)
-      (At its_server request) (two laptop server) (two laptop later) x y a
+      → StepsTo (UpStands medium scripts names c) (AnsweredBy medium scripts names c count) (At its_server request) (two laptop server)
+      (two laptop later) x y a
   by_server count it = record {
     step = λ pair here.
         let t = (it pair.requests).step pair.server here.server in (
@@ -103,12 +96,12 @@ module _ {D A : Type 0} {medium : Medium D} {scripts : List Declared} {names : L
           record pair { server = t.1 },
           t.2,
           record { inner = t.1; step = t.3; is = refl },
-          (
-            here.place,
-            here.client,
-            t.4,
-            follows_on (stamps_in laptop) pair.server.durable t.1.durable (grows pair.server t.1 t.0 _ t.3) here.follows,
-          ),
+          record {
+            place = here.place;
+            client = here.client;
+            server = t.4;
+            follows = follows_on (stamps_in laptop) pair.server.durable t.1.durable (grows pair.server t.1 t.0 _ t.3) here.follows;
+          },
         );
   }
 
@@ -121,82 +114,65 @@ module _ {D A : Type 0} {medium : Medium D} {scripts : List Declared} {names : L
 
 -- ---- an exchange that gets so far
 
-pub record Passed {D : Type 0} (medium : Medium D) (old new : Laptop D) (server : ServerNode D) (p : Passage) : Type 0 where
-  pub is : p ≡ passage old.link (is_up server)
-  pub after : Relinked medium (after_passage p) old new
+module _ {D : Type 0} {medium : Medium D} {old new : Laptop D} (server : ServerNode D) {server_up : Bool} {p : Passage}
+    (up : server_up ≡ is_up server) (is : p ≡ passage old.link server_up) (after : Relinked medium (after_passage p) old new) where
+  pub got : {q : Passage} → p ≡ q → q ≡ passage old.link (is_up server)
+  got how = sym how ∙ is ∙ ap (passage old.link) up
 
-pub passed : {D : Type 0} {medium : Medium D} {old new : Laptop D} {server : ServerNode D} {server_up : Bool} {p q : Passage}
-    → server_up ≡ is_up server → p ≡ passage old.link server_up → Relinked medium (after_passage p) old new → p ≡ q
-    → Passed medium old new server q
-passed {medium = medium} {old} {new} up is after how = record {
-  is = sym how ∙ is ∙ ap (passage old.link) up;
-  after = subst (λ (r : Passage). Relinked medium (after_passage r) old new) how after;
-}
-
--- a reply comes only of a server that is up
-reached_up : (link_up : Bool) (armed : Option Loss) (server_up : Bool) → passage_by link_up armed server_up ≡ Reaches → server_up ≡ true
-reached_up true None true is = refl
-reached_up true (Some losses.Reply) true is = absurd cc
-reached_up link_up armed server_up is = absurd cc
-
-pub reached : {D : Type 0} {medium : Medium D} {old new : Laptop D} {server : ServerNode D} → Passed medium old new server Reaches
-    → is_up server ≡ true
-reached {old = old} {server = server} it = reached_up old.link.up old.link.armed (is_up server) (sym it.is)
-
-module _ {D : Type 0} {medium : Medium D} {old new : Laptop D} {server : ServerNode D} where
   module _ {scripts : List Declared} {names : List (List ℕ)} {c : ℕ} where
     -- what the client is then
-    linked : {p : Passage} {later : ServerNode D} {pair : Pair} → Passed medium old new server p
-        → UpStands medium scripts names c (two old later) pair
-        → UpStands medium scripts names c (two new later) (record pair { client = after_passage p pair.client })
-    linked {p} {pair = pair} it here = in_place here (it.after.stands scripts pair.client here.client.is) it.after.place
-        (same_name p pair.client) (subst (λ (held : Stamps). Follows held pair.server.durable) (sym it.after.stamps) here.follows)
+    linked : {q : Passage} {later : ServerNode D} {pair : Pair} → p ≡ q → UpStands medium scripts names c (two old later) pair
+        → UpStands medium scripts names c (two new later) (record pair { client = after_passage q pair.client })
+    linked {q} {pair = pair} how here =
+        let it : Relinked medium (after_passage q) old new = subst (λ (r : Passage). Relinked medium (after_passage r) old new) how after in
+        in_place here (it.stands scripts pair.client here.client.is) it.place (same_name q pair.client)
+        (subst (λ (held : Stamps). Follows held pair.server.durable) (sym it.stamps) here.follows)
 
     module _ {A : Type 0} {request : Call (Node (List Commit)) (Option A)} where
-      exchanged : {p : Passage} {v : Both D} {x y : List ℕ} {a : Option A} → Passed medium old new server p
-          → StepsOn medium scripts names c (exchange_by request p) (two old server) v x y a
+      exchanged : {q : Passage} {v : Both D} {x y : List ℕ} {a : Option A} → p ≡ q
+          → StepsOn medium scripts names c (exchange_by request q) (two old server) v x y a
           → StepsOn medium scripts names c (Exchange request) (two old server) v x y a
-      exchanged {p} it one = bind (asks (λ pair here.
+      exchanged how one = bind (asks (λ pair here.
           let alive = sym (up_is medium names server pair.server pair.requests here.server) in
-          it.is ∙ (λ i. passage (here.client.is.link i) (alive i)))) one
+          got how ∙ (λ i. passage (here.client.is.link i) (alive i)))) one
 
       -- it was not sent
-      pub away : {x : List ℕ} → Passed medium old new server Away
+      pub away : {x : List ℕ} → p ≡ Away
           → StepsOn medium scripts names c (Exchange request) (two old server) (two new server) x x None
-      away it = exchanged it (gets (λ pair here. (refl, linked it here)))
+      away how = exchanged how (gets (λ pair here. (refl, linked how here)))
 
       -- or it was lost
-      pub request_lost : {Spelled : List ℕ → A → Type 0} {x : List ℕ} → Passed medium old new server RequestLost
+      pub request_lost : {Spelled : List ℕ → A → Type 0} {x : List ℕ} → p ≡ RequestLost
           → Exchanges (UpStands medium scripts names c) Spelled (Exchange request) None (two old server) (two new server) x x
-      request_lost it = record { is = exchanged it (gets (λ pair here. (refl, linked it here))) }
+      request_lost how = record { is = exchanged how (gets (λ pair here. (refl, linked how here))) }
 
       module _ {Spelled : List ℕ → A → Type 0} {later : ServerNode D} {x y : List ℕ}
           (grows : (node after : Node (List Commit)) (text : List ℕ) (a : Option A) → request node text a after
           → Grows node.durable after.durable) where
         -- the server handled it, and its reply is lost
-        pub reply_lost : (reply : Option (Vec ℕ Global)) → Passed medium old new server ReplyLost
+        pub reply_lost : (reply : Option (Vec ℕ Global)) → p ≡ ReplyLost
             → Serves (ServerStands medium names) Spelled request reply server later x y
             → Exchanges (UpStands medium scripts names c) Spelled (Exchange request) None (two old server) (two new later) x y
-        reply_lost None it served =
-            record { is = exchanged it (bind (handles grows None served).is (gets (λ pair here. (refl, linked it here)))) }
-        reply_lost (Some reply) it served =
-            record { is = exchanged it (bind (handles grows (Some reply) served).is.2 (gets (λ pair here. (refl, linked it here)))) }
+        reply_lost None how served =
+            record { is = exchanged how (bind (handles grows None served).is (gets (λ pair here. (refl, linked how here)))) }
+        reply_lost (Some reply) how served =
+            record { is = exchanged how (bind (handles grows (Some reply) served).is.2 (gets (λ pair here. (refl, linked how here)))) }
 
         -- the reply comes
-        pub comes : {reply : Vec ℕ Global} → Passed medium old new server Reaches
+        pub comes : {reply : Vec ℕ Global} → p ≡ Reaches
             → Serves (ServerStands medium names) Spelled request (Some reply) server later x y
             → Exchanges (UpStands medium scripts names c) Spelled (Exchange request) (Some reply) (two old server) (two new later) x y
-        comes {reply} it served =
+        comes {reply} how served =
             let e = (handles {laptop = old} grows (Some reply) served).is in
-            record { is = (e.0, e.1, exchanged it (bind e.2 (gets (λ pair here. (refl, linked it here))))) }
+            record { is = (e.0, e.1, exchanged how (bind e.2 (gets (λ pair here. (refl, linked how here))))) }
 
         -- none comes, since the server stopped
-        pub none_comes : {last : Laptop D} → Passed medium old new server Reaches
+        pub none_comes : {last : Laptop D} → p ≡ Reaches
             → Serves (ServerStands medium names) Spelled request None server later x y → Relinked medium break new last
             → Exchanges (UpStands medium scripts names c) Spelled (Exchange request) None (two old server) (two last later) x y
-        none_comes it served broke = record {
-          is = exchanged it (bind (handles grows None served).is (gets (λ pair here.
-              let mid = linked it here in (
+        none_comes how served broke = record {
+          is = exchanged how (bind (handles grows None served).is (gets (λ pair here.
+              let mid = linked how here in (
                 refl,
                 in_place mid (broke.stands scripts pair.client mid.client.is) broke.place refl
                     (subst (λ (held : Stamps). Follows held pair.server.durable) (sym broke.stamps) mid.follows),
@@ -222,14 +198,6 @@ module _ {D : Type 0} {medium : Medium D} {scripts : List Declared} {u : Both D}
   -- whether transactions wait
   pub pends_here : waits_of (state_in u.laptop).items ≡ b → OfEach medium scripts u (λ pair. b ≡ pends pair)
   pends_here is names c pair here = sym is ∙ waits_is _ _ _ _ here.client.is.state
-
--- there is room for one
-pub has_room : (many : ℕ) → not (nat_lt many most_running) ≡ false → many < most_running
-has_room many is = by (nat_lt many most_running) refl is
-  where
-    by : (b : Bool) → nat_lt many most_running ≡ b → not b ≡ false → many < most_running
-    by true less is = ltb-true many most_running less
-    by false less is = absurd cc
 
 -- ---- what is held
 
@@ -286,14 +254,13 @@ module _ {D : Type 0} {medium : Medium D} {message : Message} {reply : Vec ℕ G
   short = omega (arith, reply.ok, reply.small)
 
   module _ (client : ℕ) (held : Stamps) (tree : Nodes) (errand : Errand) (is : IsErrand client held errand message.request.items)
-      (tree_is : tree ≡ nodes_of held)
-      (there : (scripts : List Declared)
+      (tree_is : tree ≡ nodes_of held) (there : (scripts : List Declared)
       → OfEach medium scripts v (λ pair. Follows held pair.server.durable × IsTree (nodes_of held))) where
     -- its stamps are those of each list for which it stands then
     its_stamps : (scripts : List Declared) → OfEach medium scripts v (λ pair. stamps_of u.server ≡ (state_of pair.server.durable).stamps)
     its_stamps scripts names c pair here =
         let stays = came.lends client held errand is in
-        sym stays.stamps ∙ up_stamps medium names v.server pair.server pair.requests stays.up here.server
+        sym stays.1 ∙ up_stamps medium names v.server pair.server pair.requests stays.0 here.server
 
     abbrev replied : (scripts : List Declared) (names : List (List ℕ)) (c : ℕ)
         → IfReplied (SpellsCut (stamps_of u.server) held errand) (Some reply)
@@ -377,8 +344,7 @@ module _ {D : Type 0} {medium : Medium D} {message : Message} {reply : Vec ℕ G
       λ t of.
           let cut = lent_whole.cut in
           let same : t ≡ nodes_of (stamps_of u.server) =
-          same_tree short of lent_whole.spells ∙ cut.cut
-          ∙ (λ i. snapshot (nodes_none i) (wanted.Below []) (nodes_of (stamps_of u.server)))
+          same_tree short of lent_whole.spells ∙ cut.cut ∙ (λ i. snapshot (nodes_none i) (wanted.Below []) (nodes_of (stamps_of u.server)))
           ∙ whole_comes (nodes_of (stamps_of u.server)) cut.tree in
           subst IsWhole (sym same) cut.whole,
     )

@@ -12,7 +12,6 @@ use Rattle.iot_access.specs.Access.{access_of}
 use Rattle.iot_standing.proofs.StatesLaws.{HeadStands, head_stands}
 use Rattle.iot_laptop.specs.Calls.{access_in}
 use Rattle.iot_standing.specs.Kept.{access_by, access_kept}
-use Rattle.iot_tree.specs.declared.access.Access.{Access}
 use Rattle.iot_tree.specs.declared.acts.Act.{Act}
 use Rattle.iot_tree.specs.declared.want.Want.TheVariants as wanted
 use Rattle.iot_tree.specs.declared.labels.OnConflict as labels
@@ -151,10 +150,6 @@ module _ {D : Type 0} {medium : Medium D} {scripts : List Declared} {names : Lis
         let name = same_Some _ _ (sym there.client.named ∙ here.client.named) ∙ sym here.client.is.name in
         (λ i. transaction_name (name i) (sym head.stands.number i)) ∙ ap name_of (sym first.named)
 
-    -- its scripts are those of their names
-    pub named_there : ItemIsNamed scripts head.first
-    named_there = (subst (AllByRecursion (ItemIsNamed scripts)) head.split here.client.is.named.items).0
-
     -- something is planned for it if it conflicts
     pub planned_there : first.item.stage ≡ kept_stages.Conflict → (p : Plan) × (plan_of (kept pair).held head.first ≡ Some p)
     planned_there is =
@@ -240,8 +235,7 @@ module _ {D : Type 0} {medium : Medium D} {scripts : List Declared} {old : Both 
       let first : First (λ _. Unit {0}) old.laptop (record { client = old.laptop.name; number = item.tid }) =
       record { item = item; rest = items; items = same; named = refl; is = tt } in
       let refused = refused_on old.laptop item (stage_there here first) is in
-      asks_from {next = if_manual call} (sym (head here first).split)
-      (rw refused.1 (refuses_from (rw refused.0 at wrote) (still here)))
+      asks_from {next = if_manual call} (sym (head here first).split) (rw refused.1 (refuses_from (rw refused.0 at wrote) (still here)))
 
   pub undecided : {u : Undecided} → decision old.laptop (state_in old.laptop).items ≡ Err u → KeepsDisks medium old old
       → y ≡ x ++ line (undecided_word u) → Does medium scripts (IfManual call) old old x y (Err Over)
@@ -277,11 +271,6 @@ abbrev pub message_of : Submitted → Message
 message_of it = record { request = it.request; handed = Some (record { printed = it.printed; way = it.way }) }
 
 -- ---- what is submitted
-
--- the access of a resolution is that of its acts, on the server's tree of then
-resolved_access : (done : Resolution) (it : clients.Resolution) → ResolutionStands done it → (access : Access)
-    → access ≡ access_by (clients.Resolved it) → access ≡ access_of done.acts it.tree
-resolved_access done it stands access has = has ∙ ap (λ (acts : List Act). access_of acts it.tree) (sym stands.acts)
 
 module _ {D : Type 0} {medium : Medium D} {scripts : List Declared} {names : List (List ℕ)} {c : ℕ} {old : Both D} {pair : Pair}
     (here : UpStands medium scripts names c old pair) {Is : Item → Type 0} {t : Transaction} (first : First Is old.laptop t) where
@@ -326,7 +315,7 @@ module _ {D : Type 0} {medium : Medium D} {scripts : List Declared} {names : Lis
         reads = ap (λ (t : Nodes). reads_of (local_run t mi).acts) (sym here.client.is.state.held) ∙ ap reads_of (sym stands.acts);
         spelled = record { script = stands.script; kept = no_files_are_spelled };
       }
-  submission_by (resolved done) is planned has =
+  submission_by (resolved {it = it} done) is planned has =
       let stands = (head here first).stands in
       let placed = here.place ∙ sym here.client.place in
       let its_way = ways_are mi.option planned ∙ ap way_of (sym stands.option) in
@@ -343,7 +332,8 @@ module _ {D : Type 0} {medium : Medium D} {scripts : List Declared} {names : Lis
         base = _;
         tree = done.tree;
         has_acts = done.acts;
-        has_access = resolved_access _ _ done _ has;
+        -- it is that of its acts, on the server's tree of then
+        has_access = has ∙ ap (λ (acts : List Act). access_of acts it.tree) (sym done.acts);
         reads = ap reads_of (sym done.acts);
         spelled = record { script = done.script; kept = done.files };
       }
@@ -377,8 +367,7 @@ module _ {D : Type 0} {medium : Medium D} {scripts : List Declared} {names : Lis
     -- what the reply says of it
     says_it : (bytes : List ℕ) (told : Verdict) → SpellsVerdict (submission_of mi pair).reads bytes told
         → SpellsVerdict (head_reads (state_in old.laptop).items) bytes told
-    says_it bytes told is = subst (λ (r : List Read). SpellsVerdict r bytes told)
-        (submission.reads ∙ sym (ap head_reads first.items)) is
+    says_it bytes told is = subst (λ (r : List Read). SpellsVerdict r bytes told) (submission.reads ∙ sym (ap head_reads first.items)) is
 
 -- ---- what becomes of it
 
@@ -420,18 +409,15 @@ module _ {D : Type 0} {laptop : Laptop D} {t : Transaction} (it : Submitted) (fi
 
     -- what the reply says of it becomes of it
     pub submits_told : {scripts : List Declared} {new : Laptop D} {z w : List ℕ} {inner : Result
-        (Unit {0}) Halt} {result : Result Synced Halt}
-        → KeepsDisks medium (two laptop server) mid
+        (Unit {0}) Halt} {result : Result Synced Halt} → KeepsDisks medium (two laptop server) mid
         → ((verdict : Verdict) (option : labels.OnConflict) → SpellsVerdict (head_reads (state_in laptop).items) reply.items verdict
         → head_option (state_in laptop).items ≡ Some option → Changes medium (told_change verdict option) mid.laptop new y z inner)
-        → SamePlace mid.laptop new → UnlessNoMemory inner (KeepsTrails mid.laptop new)
-        → KeepsDisk medium (disk_in mid.laptop) (disk_in new)
+        → SamePlace mid.laptop new → UnlessNoMemory inner (KeepsTrails mid.laptop new) → KeepsDisk medium (disk_in mid.laptop) (disk_in new)
         → ((verdict : Verdict) (option : labels.OnConflict) → SpellsVerdict (head_reads (state_in laptop).items) reply.items verdict
         → head_option (state_in laptop).items ≡ Some option
         → Does medium scripts (Notes (told_change verdict option)) mid (two new mid.server) y z inner → Does medium scripts
         (NotesAloud (told_change verdict option) (told_text (name_of t) verdict option) (told_synced verdict option))
-        mid (two new mid.server) y w result)
-        → Does medium scripts Syncs (two laptop server) (two new mid.server) x w result
+        mid (two new mid.server) y w result) → Does medium scripts Syncs (two laptop server) (two new mid.server) x w result
     submits_told {scripts} keeps does place trails more after = each_from (keeps_more keeps more) (λ names c pair here.
         let m = mi here first in
         let e = (came.asked.is scripts names c (Judgment (submission_of m pair)) (asks_judgment here first first.is)).is in
@@ -441,10 +427,7 @@ module _ {D : Type 0} {laptop : Laptop D} {t : Transaction} (it : Submitted) (fi
         submits_from here first first.is.submitted (then_from e.2 here
         ((told_by e.0 m.option (name_there here first here) (after e.0 (option_named m.option) spells has
         (by_client (notes (told_change e.0 (option_named m.option))) keeps place trails
-        (does e.0 (option_named m.option) spells has scripts)
-        more))).step names c)))
-
--- ---- the whole tree
+        (does e.0 (option_named m.option) spells has scripts) more))).step names c)))
 
 -- ---- plans
 
@@ -540,14 +523,12 @@ module _ {D : Type 0} {laptop : Laptop D} {t : Transaction} (request : Vec ℕ G
         → ((t : Nodes) → SpellsTree nothing_held reply.items t → (scripts : List Declared) (p : Plan) → Plans medium scripts mid.laptop p
         → p.script.code ≡ code
         → EndsAlone medium scripts (NotesAlone (reach (clients.Resolved (resolution_of p t)))) mid.laptop new y z inner)
-        → SamePlace mid.laptop new → UnlessNoMemory inner (KeepsTrails mid.laptop new)
-        → KeepsDisk medium (disk_in mid.laptop) (disk_in new)
+        → SamePlace mid.laptop new → UnlessNoMemory inner (KeepsTrails mid.laptop new) → KeepsDisk medium (disk_in mid.laptop) (disk_in new)
         → ((p : Plan) (u : Nodes)
         → Does medium scripts (Notes (reach (clients.Resolved (resolution_of p u)))) mid (two new mid.server) y z inner
         → Does medium scripts
         (NotesAloud (reach (clients.Resolved (resolution_of p u))) (resolve_line (name_of t) (resolver_said plan)) Moved)
-        mid (two new mid.server) y w result)
-        → Does medium scripts Syncs (two laptop server) (two new mid.server) x w result
+        mid (two new mid.server) y w result) → Does medium scripts Syncs (two laptop server) (two new mid.server) x w result
     resolves_told {medium} {scripts} coded came keeps does place trails more after =
         each_from (keeps_more keeps more) (λ names c pair here.
         let plans = plans_it {medium = medium} {scripts = scripts} first (plan_is first is) coded.is in

@@ -68,8 +68,7 @@ module _ (held : Stamps) (commits : List Commit) (server : Stamps) (errand : Err
   positive = subst IsPositive (sym is) (list_stamped commits).positive
 
   -- what is sent for it
-  cuts : (errand : Errand)
-      → IsCutTo (base_of held errand) server (paths_for server held errand) (changes_to server held errand).rows
+  cuts : (errand : Errand) → IsCutTo (base_of held errand) server (paths_for server held errand) (changes_to server held errand).rows
       (changes_to server held errand).gone
   cuts (Refresh want) = refresh_cut held server want _ _ (record {
     tree = cut.tree;
@@ -113,8 +112,7 @@ module _ (held : Stamps) (commits : List Commit) (server : Stamps) (errand : Err
       let same : changes ≡ changes_to server held errand = let objects = one _ _ spells cut.spelled in cc in
       let k = paths_for server held errand in
       let stamped = list_stamped commits in
-      subst (λ (now : Stamps). Follows now commits) (sym (ap (brought (base_of held errand)) same ∙ merges))
-      (record {
+      subst (λ (now : Stamps). Follows now commits) (sym (ap (brought (base_of held errand)) same ∙ merges)) (record {
         far = far_zero_pruned server k;
         agrees = subst (Agrees (pruned server k)) is (agrees_pruned server k positive);
         within = up_pruned server k (length commits + 1) (subst (λ (s : Stamps). UpTo s (length commits + 1)) (sym is) stamped.within);

@@ -4,6 +4,4 @@ pub mod DoesLaws
 pub mod ExchangeLaws
 pub mod FirstLaws
 pub mod NamesLaws
-pub mod RunningLaws
 pub mod TransactionsLaws
-pub mod YieldingLaws

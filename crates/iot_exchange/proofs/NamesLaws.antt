@@ -21,8 +21,7 @@ looked_up [] name = refl
 looked_up (w ∷ ws) name = by (bytes_eq name w.name) (looked_up ws name)
   where
     by : (b : Bool) → script_named name (map script_of ws) ≡ option_map script_of (found_among ws name)
-        → cond b (Some (script_of w)) (script_named name (map script_of ws))
-        ≡ option_map script_of (cond b (Some w) (found_among ws name))
+        → cond b (Some (script_of w)) (script_named name (map script_of ws)) ≡ option_map script_of (cond b (Some w) (found_among ws name))
     by true more = refl
     by false more = more
 

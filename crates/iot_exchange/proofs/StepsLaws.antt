@@ -42,27 +42,11 @@ module _ {W M : Type 0} {up down : W → M → Type 0} where
 
   pub says_from : {A : Type 0} {text : M → List ℕ} {m : M} {v : W} {x y : List ℕ} {a : A} → y ≡ x ++ text m → up v m
       → From up down (Tells text (Some a)) m v x y (Ok a)
-  says_from {text = text} {m} wrote here = record {
-    is = record {
-      text = text m;
-      next = m;
-      wrote = wrote;
-      step =
-          (refl, refl, refl);
-      stands = here;
-    };
-  }
+  says_from {text = text} {m} wrote here =
+      record { is = record { text = text m; next = m; wrote = wrote; step = (refl, refl, refl); stands = here } }
 
   -- a word is said, and the event is over
   pub refuses_from : {A : Type 0} {text : M → List ℕ} {m : M} {v : W} {x y : List ℕ} → y ≡ x ++ text m → down v m
       → From {A = A} up down (Tells text None) m v x y (Err Over)
-  refuses_from {text = text} {m} wrote here = record {
-    is = record {
-      text = text m;
-      next = m;
-      wrote = wrote;
-      step =
-          (refl, refl, refl);
-      stands = here;
-    };
-  }
+  refuses_from {text = text} {m} wrote here =
+      record { is = record { text = text m; next = m; wrote = wrote; step = (refl, refl, refl); stands = here } }

@@ -1,30 +1,47 @@
--- Transactions begin, are stepped and end as those of the machine, and what one sees of them is what the machine says.
-use Rattle.std.proofs.Common.{◌≡◌, ℕ, ◌-◌, Bool, List, [], ◌∷◌, ◌++◌, length, map, Option, Some, None, slice_get, Bor, Result, Ok, refl}
-use Rattle.std.proofs.Common.{sym, ap, subst, ◌∙◌, true, false, not, codes}
-use Rattle.std.specs.Prelude.{leb, option_map, if◌then◌else◌}
+-- Transactions begin, are stepped and end as those of the machine: which one is meant, what it does, having yielded if transactions wait,
+-- and what one sees of it.
+use Rattle.std.proofs.Common.{[], ◌++◌, ◌-◌, ◌∙◌, ◌∷◌, ◌≡◌, Bool, Bor, Err, IsErrAnd, List, None, Ok, Option, Result, Some, ap, codes}
+use Rattle.std.proofs.Common.{false, length, map, not, refl, slice_get, subst, sym, true, ℕ}
+use Rattle.std.specs.Prelude.{if◌then◌else◌, leb, option_map}
 use Rattle.std.proofs.lemmas.Option.{same_Some, slice_get_past, slice_get_read}
 use Rattle.std.specs.Option.{option_copied}
 use Rattle.std.specs.Slice.{IsItemAt}
-use Rattle.std.proofs.lemmas.Bool.{leb-true, leb-false}
+use Rattle.std.proofs.lemmas.Bool.{eq-eqb, leb-false, leb-true}
 use Rattle.std.proofs.lemmas.List.{append-nil}
 use Rattle.iot_kept.specs.States.{Transaction, numbered}
-use Rattle.iot_kept.specs.declared.running.Running.{Running}
 use Rattle.iot_judging.proofs.NextLaws.{is_at_end, is_at_limit, is_next}
 use Rattle.iot_queue.specs.declared.items.Stage.TheVariants as stages
 use Rattle.iot_machine.specs.Clients as clients
 use Rattle.iot_machine.specs.Events.{said_of}
 use Rattle.iot_standing.proofs.RunsLaws.{RunsAs, number_found}
-use Rattle.iot_standing.proofs.StatesLaws.{ended_is, found_stands, none_is}
-use Rattle.iot_exchange.specs.Words.{ClientState, Path, RunLine, Live, is_over_if_any, live_numbered, classes_of, transactions}
-use Rattle.iot_exchange.specs.Words.{so_far, next_step, next_by, next_away, says_reads, place_text, is_first, running_in, run_line}
-use Rattle.iot_exchange.specs.Words.{stage_kept, items_kept, RunStand, live_in}
-use Rattle.iot_exchange.specs.Words.{Nodes, ACT_LIMIT, after_acts, Item, Stage, Medium, Declared, ReadsOf}
-use Rattle.iot_exchange.specs.Words.{queue_kept, queue_text, transaction_name, begin_line, step_line, fetch_line}
-use Rattle.iot_exchange.specs.Words.{Client, fetched, Halt, ItemsStand, LaptopStands, state_in, Laptop}
-use Rattle.iot_exchange.specs.Pairs.{Both, Does, KeepsDisks}
+use Rattle.iot_standing.proofs.StatesLaws.{ended_is, first_is, found_stands, may_end_is, none_is, none_yields, numbered_is}
+use Rattle.iot_exchange.specs.Words.{ACT_LIMIT, Acts, Answers, Asks, AtEnd, AtLimit, Client, ClientState, Closes, Compared, Compares}
+use Rattle.iot_exchange.specs.Words.{Declared, Differs, Ended, Ends, Goes, Gone, Halt, IsDoneIn, IsGoneIfAny, IsNext, IsOver, IsUnended}
+use Rattle.iot_exchange.specs.Words.{Item, ItemsStand, KeepsDisk, KeepsTrails, Laptop, LaptopStands, Live, Medium, Next, NextIs, NoMemory}
+use Rattle.iot_exchange.specs.Words.{Nodes, Notes, Over, Pair, Path, ReadsOf, Reclassed, Refuses, Repeats, RunLine, RunStand, Same}
+use Rattle.iot_exchange.specs.Words.{SamePlace, ServerNode, Stage, Stamps, Step, Steps, StepsAloud, TakesStep, Tells, Then, Try}
+use Rattle.iot_exchange.specs.Words.{UnlessNoMemory, Yields, act_once, after_acts, again_line, begin_line, certifies, classes_of}
+use Rattle.iot_exchange.specs.Words.{compared_if, disk_in, done, end_by, end_line, ended_of, ends_by, fetch_line, fetched, has_any, if_runs}
+use Rattle.iot_exchange.specs.Words.{is_first, is_over_if_any, items_kept, kept, line, live_in, live_numbered, may_end_if_any, meant}
+use Rattle.iot_exchange.specs.Words.{meant_in, next_away, next_by, next_of, next_step, pends, place_text, queue_kept, queue_text}
+use Rattle.iot_exchange.specs.Words.{run_line, running_in, says_reads, so_far, stage_kept, state_in, step_by, step_line, step_of, step_text}
+use Rattle.iot_exchange.specs.Words.{syncs_or_waits, transaction, transaction_name, transactions, unless_over, yield_if, yielding}
+use Rattle.iot_exchange.specs.Pairs.{Both, Does, DoesFrom, KeepsDisks, UpStands, two}
 use Rattle.iot_exchange.specs.Saying.{line_of, place_said}
-use Rattle.iot_exchange.proofs.DoesLaws.{asks_then, answers, tells}
+use Rattle.iot_exchange.proofs.DoesLaws.{Certifying, OfEach, Unless, answers, asks_then, by_client, certifying, each_from, goes_from}
+use Rattle.iot_exchange.proofs.DoesLaws.{goes_then, hands_on, in_place, keeps_more, keeps_then, no_memory, noted, still, tells}
+use Rattle.iot_exchange.proofs.DoesLaws.{then_does, yields_name, yields_pair, yields_then}
 use Rattle.iot_exchange.proofs.FirstLaws.{SameStage, resolved, same_stage}
+use Rattle.iot_kept.specs.declared.running.Running as kept_running
+use Rattle.iot_machine.specs.Clients.{Running, has_number}
+use Rattle.iot_exchange.proofs.StepsLaws.{also_from, answers_from, asks_from, gets_from, refuses_from, says_from}
+use Rattle.iot_tree.specs.declared.questions.Question.{Question}
+use Rattle.iot_judging.specs.Lists.{Follows}
+use Rattle.iot_laptop.specs.declared.needs.Certified.{Certified}
+use Rattle.iot_laptop.specs.declared.needs.Certified.TheVariants as told
+use Rattle.iot_machine.proofs.StepsLaws as calls
+use Rattle.iot_exchange.specs.Queues.{EndsAloud, ended_as}
+use Rattle.iot_machine.proofs.GroupingLaws.{looked, looks, regrouped, then_also}
 
 -- ---- the transactions that wait
 
@@ -53,24 +70,19 @@ queue_are items t m held it = items_are items t m.items it ∙ ap (λ (u : Nodes
 
 -- ---- those that run
 
-heads : {A : Type 0} {x y : A} {xs ys : List A} → x ∷ xs ≡ y ∷ ys → (x ≡ y) × (xs ≡ ys)
-heads is = (cc, cc)
-
 -- a line for each
-lines_are : (rs : List Running) (lives : List Live) (m : Client) (ms : List clients.Running)
-    → classes_of rs ≡ map (λ live. live.first) lives → RunStand (transactions rs) lives m.first ms
-    → map line_of rs ≡ map (run_line m) ms
+lines_are : (rs : List kept_running.Running) (lives : List Live) (m : Client) (ms : List clients.Running)
+    → classes_of rs ≡ map (λ live. live.first) lives → RunStand (transactions rs) lives m.first ms → map line_of rs ≡ map (run_line m) ms
 lines_are [] [] m [] classes stand = refl
 lines_are (r ∷ rs) (live ∷ lives) m (it ∷ ms) classes stand =
-    let same = heads classes in
-    let class : r.first ≡ is_first it.number m = same.0 ∙ stand.0.class in
-    let rest = lines_are rs lives m ms same.1 stand.1 in
+    let same : r.first ≡ live.first = cc in
+    let class : r.first ≡ is_first it.number m = same ∙ stand.0.class in
+    let rest = lines_are rs lives m ms (cc) stand.1 in
     (λ i. record { tid = stand.0.number i; script = stand.0.name i; first = class i; acts = stand.0.acts i } ∷ rest i)
 lines_are rs lives m ms classes stand = absurd stand
 
 -- an element that is lent is the one at its place
-lent_element : {A : Type 0} (xs : List A) (place : ℕ) (o : Option (Bor A)) → IsItemAt xs place o
-    → option_copied o ≡ slice_get xs place
+lent_element : {A : Type 0} (xs : List A) (place : ℕ) (o : Option (Bor A)) → IsItemAt xs place o → option_copied o ≡ slice_get xs place
 lent_element xs place None it = sym (slice_get_past xs place it.3)
 lent_element xs place (Some x) it = sym (slice_get_read xs (length xs) place x.now refl it.3.0 it.1)
 
@@ -80,9 +92,9 @@ queue_is {laptop = laptop} {m} here =
     queue_are (state_in laptop).items (state_in laptop).held m.node.durable here.state.held here.state.items
 
 -- all of them are said
-pub says_queue : {D : Type 0} (medium : Medium D) (laptop : Laptop D) (x : List ℕ) {y : List ℕ} (rs : List Running) (lines : List RunLine)
-    → transactions rs ≡ (state_in laptop).running → classes_of rs ≡ map (λ live. live.first) (live_in laptop) → lines ≡ map line_of rs
-    → y ≡ x ++ queue_text laptop.name (state_in laptop).items lines → (scripts : List Declared) (m : Client)
+pub says_queue : {D : Type 0} (medium : Medium D) (laptop : Laptop D) (x : List ℕ) {y : List ℕ} (rs : List kept_running.Running)
+    (lines : List RunLine) → transactions rs ≡ (state_in laptop).running → classes_of rs ≡ map (λ live. live.first) (live_in laptop)
+    → lines ≡ map line_of rs → y ≡ x ++ queue_text laptop.name (state_in laptop).items lines → (scripts : List Declared) (m : Client)
     → LaptopStands medium scripts laptop m → y ≡ x ++ queue_text m.name (queue_kept m.node.durable) (running_in m)
 says_queue medium laptop x rs lines run classes are wrote scripts m here =
     let queue = queue_is here in
@@ -138,8 +150,8 @@ module _ {D : Type 0} {medium : Medium D} {scripts : List Declared} {laptop : La
   none_said text none same = rw (none_is _ _ _ _ here.state number none) (same ∙ sym (append-nil x))
 
   module _ (r : Transaction) (is : numbered number (state_in laptop).running ≡ Some r) where
-    abbrev found : RunsAs number r (state_in laptop).running (live_in laptop) m.first m.node.durable.running
-    found = found_stands _ _ _ _ here.state number r is
+    abbrev run_found : RunsAs number r (state_in laptop).running (live_in laptop) m.first m.node.durable.running
+    run_found = found_stands _ _ _ _ here.state number r is
 
     pub begun_said : (first : Bool)
         → Some first ≡ option_map (λ live. live.first) (live_numbered number (state_in laptop).running (live_in laptop))
@@ -147,7 +159,7 @@ module _ {D : Type 0} {medium : Medium D} {scripts : List Declared} {laptop : La
         → y ≡ x ++ said_of (λ it. begin_line (transaction_name m.name number) it.script.name (is_first number m))
         (clients.numbered number m.node.durable)
     begun_said first class wrote =
-        let k = found in
+        let k = run_found in
         let its_class : first ≡ is_first number m =
         same_Some first _ (class ∙ ap (option_map (λ live. live.first)) k.lives) ∙ k.stands.class
         ∙ ap (λ (n : ℕ). is_first n m) (number_found number m.node.durable.running k.it k.is) in
@@ -159,11 +171,288 @@ module _ {D : Type 0} {medium : Medium D} {scripts : List Declared} {laptop : La
         → y ≡ x ++ said_of (λ it. step_line (transaction_name m.name number) it.acts
         (place_text (next_step (is_first it.number m) it))) (clients.numbered number m.node.durable)
     stepped_said wrote =
-        let k = found in
+        let k = run_found in
         let over : Bool = is_over_if_any (numbered number (state_in laptop).running)
         (live_numbered number (state_in laptop).running (live_in laptop)) in
         let place : place_said over (length r.acts) ≡ place_text (next_step (is_first k.it.number m) k.it) =
         ap (place_said over) k.stands.acts
         ∙ sym (place_by (is_first k.it.number m) k.it over (ended_is _ _ _ _ here.state number k.it k.is)) in
-        rw k.is
-        (wrote ∙ (λ i. x ++ step_line (transaction_name (here.name i) number) (k.stands.acts i) (place i)))
+        rw k.is (wrote ∙ (λ i. x ++ step_line (transaction_name (here.name i) number) (k.stands.acts i) (place i)))
+
+-- ---- in a list
+
+-- the one that is meant is the one with its number
+pub record Meant (which : Option ℕ) (number : ℕ) (s : ClientState) : Type 0 where
+  pub it : Running
+  pub is : meant which s ≡ Some it
+  pub found : clients.numbered number s ≡ Some it
+  pub same : it.number ≡ number
+
+meant_number : (k number : ℕ) (s : ClientState) (o : Option Running) → clients.numbered k s ≡ o
+    → option_map (λ it. it.number) o ≡ Some number → Meant (Some k) number s
+meant_number k number s None is named = absurd cc
+meant_number k number s (Some it) is named =
+    let same : it.number ≡ number = same_Some it.number number named in
+    let asked : k ≡ number = sym (number_found k s.running it is) ∙ same in
+    record { it = it; is = is; found = subst (λ (n : ℕ). clients.numbered n s ≡ Some it) asked is; same = same }
+
+meant_first : (number : ℕ) (s : ClientState) (running : List Running) → s.running ≡ running
+    → option_map (λ it. it.number) (slice_get running 0) ≡ Some number → Meant None number s
+meant_first number s [] are named = absurd cc
+meant_first number s (it ∷ running) are named =
+    let same : it.number ≡ number = same_Some it.number number named in
+    let has : has_number number it ≡ true = eq-eqb it.number number same in
+    record { it = it; is = rw are; found = rw (are, has); same = same }
+
+pub meant_as : (which : Option ℕ) (number : ℕ) (s : ClientState) → option_map (λ it. it.number) (meant which s) ≡ Some number
+    → Meant which number s
+meant_as (Some k) number s named = meant_number k number s (clients.numbered k s) refl named
+meant_as None number s named = meant_first number s s.running refl named
+
+none_named : (o : Option Running) → option_map (λ it. it.number) o ≡ None → o ≡ None
+none_named None named = refl
+none_named (Some it) named = absurd cc
+
+-- ---- in each pair
+
+module _ {D : Type 0} {medium : Medium D} {scripts : List Declared} {laptop : Laptop D} {m : Client}
+    (here : LaptopStands medium scripts laptop m) where
+  meant_is : (which : Option ℕ) → meant_in which (state_in laptop).running ≡ option_map (λ it. it.number) (meant which m.node.durable)
+  meant_is (Some number) = numbered_is _ _ _ _ here.state number
+  meant_is None = first_is _ _ _ _ here.state
+
+module _ {D : Type 0} {medium : Medium D} {scripts : List Declared} {u : Both D} where
+  -- none is meant
+  pub none_meant : (which : Option ℕ) → meant_in which (state_in u.laptop).running ≡ None
+      → OfEach medium scripts u (λ pair. None ≡ meant which (kept pair))
+  none_meant which none names c pair here = sym (none_named (meant which (kept pair)) (sym (meant_is here.client.is which) ∙ none))
+
+  -- this one is, in each pair for which the two stand
+  pub for_meant : {A : Type 0} (which : Option ℕ) {number : ℕ} {next : Option Running → Try Pair A} {v : Both D} {x y : List ℕ}
+      {result : Result A Halt} → meant_in which (state_in u.laptop).running ≡ Some number → KeepsDisks medium u v
+      → ((names : List (List ℕ)) (c : ℕ) (pair : Pair) (it : Running) → UpStands medium scripts names c u pair
+      → clients.numbered number (kept pair) ≡ Some it → it.number ≡ number
+      → DoesFrom medium scripts names c (next (Some it)) pair v x y result)
+      → Does medium scripts (Then (Asks (λ pair. meant which (kept pair))) next) u v x y result
+  for_meant which is keeps each = each_from keeps (λ names c pair here.
+      let r = meant_as which _ (kept pair) (sym (meant_is here.client.is which) ∙ is) in
+      asks_from (sym r.is) (each names c pair r.it here r.found r.same))
+
+-- ---- one that is lent
+
+pub lent_run : {o p : Option (Bor kept_running.Running)} {q : Option Transaction} → option_map transaction (option_copied o) ≡ q → o ≡ p
+    → q ≡ option_map transaction (option_copied p)
+lent_run running is = sym running ∙ ap (λ o. option_map transaction (option_copied o)) is
+
+-- ---- a pair that yields
+
+-- only classes change
+yields_of : {A : Type 0} (of : ClientState → A) (number : ℕ) (pair : Pair) (pends : Bool)
+    → of (kept (yield_if number pends pair)) ≡ of (kept pair)
+yields_of of number pair true = refl
+yields_of of number pair false = refl
+
+-- its next step then
+next_yielded : (it : Running) (number : ℕ) (pair : Pair)
+    → next_of it (yield_if number (pends pair) pair) ≡ next_step (is_first it.number (yielding number pair.client)) it
+next_yielded it number pair = ap (next_of it) (sym (yields_pair number pair))
+
+module _ {D : Type 0} {medium : Medium D} {old new : Laptop D} {server : ServerNode D} where
+  -- so does the client
+  pub yields_there : {scripts : List Declared} {names : List (List ℕ)} {c : ℕ} {pair : Pair} (number : ℕ)
+      → Reclassed medium (yielding number) old new → UpStands medium scripts names c (two old server) pair
+      → UpStands medium scripts names c (two new server) (yield_if number (pends pair) pair)
+  yields_there {scripts} {names} {c} {pair} number it here =
+      subst (UpStands medium scripts names c (two new server)) (yields_pair number pair)
+      (in_place here (it.stands scripts pair.client here.client.is) it.place (yields_name number (has_any (kept pair).items) pair.client)
+      (subst (λ (held : Stamps). Follows held pair.server.durable) (sym it.stamps) here.follows))
+
+-- ---- steps
+
+module _ {D : Type 0} {medium : Medium D} {scripts : List Declared} (number : ℕ) (loud : Bool) where
+  -- none has this number
+  module _ {u : Both D} where
+    none_yielded : {names : List (List ℕ)} {c : ℕ} {pair : Pair} → clients.numbered number (kept pair) ≡ None
+        → UpStands medium scripts names c u pair → UpStands medium scripts names c u (yield_if number (pends pair) pair)
+    none_yielded {names} {c} {pair} none here = by (pends pair)
+      where
+        by : (b : Bool) → UpStands medium scripts names c u (yield_if number b pair)
+        by true = in_place here (record {
+          name = here.client.is.name;
+          link = here.client.is.link;
+          alive = here.client.is.alive;
+          node = here.client.is.node;
+          state = none_yields _ _ _ _ here.client.is.state number none;
+          named = here.client.is.named;
+        }) refl refl here.follows
+        by false = here
+
+    pub steps_none : {x : List ℕ} → numbered number (state_in u.laptop).running ≡ None → KeepsDisks medium u u
+        → Does medium scripts (Steps number loud) u u x x (Ok false)
+    steps_none none keeps = each_from keeps (λ names c pair here.
+        let is = none_is _ _ _ _ here.client.is.state number none in
+        gets_from tt _ (refl, refl)
+        (asks_from {next = step_of number loud} (sym (yields_of (clients.numbered number) number pair (pends pair) ∙ is))
+        (answers_from (none_yielded is here))))
+
+  module _ {old new : Laptop D} {server : ServerNode D} {r : Transaction} (runs : numbered number (state_in old).running ≡ Some r) where
+    -- it only yields, and then the next step follows
+    pub steps_by : {next : Next} {w : Both D} {x y z : List ℕ} {result : Result Bool Halt} → IsNext medium number old next
+        → Reclassed medium (yielding number) old new × (y ≡ x) → KeepsDisks medium (two old server) (two old server)
+        → KeepsDisk medium (disk_in old) (disk_in new) → Does medium scripts (step_by number loud next) (two new server) w y z result
+        → Does medium scripts (Steps number loud) (two old server) w x z result
+    steps_by is yielded keeps more does = each_from (keeps_then (keeps_more keeps more) does.disks) (λ names c pair here.
+        let one = found_stands _ _ _ _ here.client.is.state number r runs in
+        gets_from tt _ (refl, refl)
+        (asks_from {next = step_of number loud} (sym (yields_of (clients.numbered number) number pair (pends pair) ∙ one.is))
+        (asks_from {next = step_by number loud}
+        (sym (next_yielded one.it number pair ∙ is scripts pair.client one.it here.client.is one.is))
+        ((rw yielded.1 at does).step _ _ _ (yields_there number yielded.0 here)))))
+
+    -- it does its next act, having yielded; or it stops in that
+    pub acts_by : {x y : List ℕ} {result : Result Bool Halt} → IsNext medium number old Acts
+        → Does medium scripts (Goes (Then (Yields number) (λ _. Notes (act_once number))) (λ _. Answers (Some true)))
+        (two old server) (two new server) x y result → Does medium scripts (Steps number loud) (two old server) (two new server) x y result
+    acts_by is does = each_from does.disks (λ names c pair here.
+        let one = found_stands _ _ _ _ here.client.is.state number r runs in
+        also_from (λ text o n step. then_also {other = λ _. Then (Asks (λ pair. clients.numbered number (kept pair))) (step_of number loud)}
+        (λ a front rest mid yields acts.
+        let found : clients.numbered number (kept mid) ≡ Some one.it =
+        ap (λ (m : Pair). clients.numbered number (kept m)) yields.1 ∙ yields_of (clients.numbered number) number pair (pends pair)
+        ∙ one.is in
+        let next : next_of one.it mid ≡ Acts =
+        ap (next_of one.it) yields.1 ∙ next_yielded one.it number pair ∙ is scripts pair.client one.it here.client.is one.is in
+        looks {next = step_of number loud} (sym found) (looks {next = step_by number loud} (sym next) acts)) (regrouped step))
+        (does.step _ _ _ here))
+
+    -- it stopped in an act, or memory ran out
+    pub step_halted : {x y : List ℕ} {result : Result Step Halt} {outer : Result Bool Halt} {fault : Halt} → result ≡ Err fault
+        → NextIs medium number old result → IsErrAnd outer (λ other. other ≡ fault) → KeepsDisks medium (two old server) (two old server)
+        → SamePlace old new → UnlessNoMemory (done result) (KeepsTrails old new) → TakesStep medium number old new x y result
+        → KeepsDisk medium (disk_in old) (disk_in new) → Does medium scripts (Steps number loud) (two old server) (two new server) x y outer
+    step_halted {fault = NoMemory} was next is keeps place trails did more = no_memory is (keeps_more keeps more)
+    step_halted {fault = Over} was next is keeps place trails did more = acts_by (rw was at next) (hands_on refl is
+        (by_client (yields_then number (act_once number)) keeps place (rw was at trails) ((rw was at did) scripts) more))
+
+-- the steps of the one that is meant, and what is said of it then
+abbrev pub aloud : (most : ℕ) → Running → Try Pair (Unit {0})
+aloud most it = Goes (Repeats most (Steps it.number true)) (λ _. Closes (step_text it.number))
+
+module _ {D : Type 0} {medium : Medium D} {scripts : List Declared} {u : Both D} (which : Option ℕ) {number : ℕ} (most : ℕ)
+    (is : meant_in which (state_in u.laptop).running ≡ Some number) {v : Both D} {x : List ℕ} where
+  pub aloud_by : {z : List ℕ} {result : Result (Unit {0}) Halt}
+      → Does medium scripts (Goes (Repeats most (Steps number true)) (λ _. Closes (step_text number))) u v x z result
+      → Does medium scripts (StepsAloud most which) u v x z result
+  aloud_by does = for_meant which {next = if_runs (aloud most)} is does.disks
+      (λ names c pair it here found same. rw same (does.step _ _ _ here))
+
+-- ---- what becomes of one that is certified
+
+pub trails_found : (P : Type 0) (result : Result Certified Halt) → UnlessNoMemory (done result) P → Unless (compared_if result) P
+trails_found P (Ok it) so = so
+trails_found P (Err halt) so = so
+
+-- that it ends is said, and it is synced or waits by its class
+pub ends_aloud : {D : Type 0} {medium : Medium D} {scripts : List Declared} {u w : Both D} {x y z : List ℕ}
+    {result : Result (Unit {0}) Halt} (gone : Gone) {b : Bool} → KeepsDisks medium u u → y ≡ x ++ end_line (ended_as gone).name
+    → gone.first ≡ b → Does medium scripts (syncs_or_waits (ended_as gone) b) u w y z result
+    → Does medium scripts (EndsAloud (ended_as gone)) u w x z result
+ends_aloud {u = u} {x = x} {y} gone keeps wrote is it =
+    then_does (λ names c. calls.says (λ pair here. wrote)) keeps (rw (← is) at it)
+
+abbrev pub after_found : Ended → Compared → Try Pair (Unit {0})
+after_found gone Same = EndsAloud gone
+after_found gone (Differs read question) = Tells (λ _. again_line gone.name read question) (Some tt)
+
+told_after : {pair n : Pair} {text : List ℕ} {b : Option (Unit {0})} (gone : Ended) (found : Compared) (o : Option (Unit {0}))
+    → Then (unless_over (λ (_ : Unit {0}). Answers (Some found)) o) (unless_over (after_found gone)) pair text b n
+    → unless_over (λ (_ : Unit {0}). after_found gone found) o pair text b n
+told_after gone found None it = looked {next = unless_over (after_found gone)} refl it
+told_after gone found (Some done) it = looked {next = unless_over (after_found gone)} refl it
+
+-- what was found is noted, and then told
+ends_noted : {pair n : Pair} {text : List ℕ} {b : Option (Unit {0})} (gone : Ended) (found : Compared)
+    → Then (noted gone.number found) (unless_over (after_found gone)) pair text b n → ends_by gone found pair text b n
+ends_noted gone Same it = then_also (λ o front rest mid first second. told_after gone Same o second) (regrouped it)
+ends_noted gone (Differs read question) it =
+    then_also (λ o front rest mid first second. told_after gone (Differs read question) o second) (regrouped it)
+
+module _ {pair n : Pair} {text : List ℕ} {b : Option (Unit {0})} (number : ℕ) (it : Running)
+    (found : clients.numbered number (kept pair) ≡ Some it) where
+  certified : Goes (Certifying number) (after_found (ended_of it (yield_if it.number (pends pair) pair))) pair text b n
+      → certifies it pair text b n
+  certified whole =
+      then_also (λ a front rest mid yields second.
+      let here = subst (λ (m : Pair). Then (Then (Compares it) (noted it.number)) (unless_over (after_found (ended_of it m))) mid rest b n)
+      (sym yields.1) second in
+      looks refl (then_also (λ what front rest last compares more. ends_noted (ended_of it mid) what more) (regrouped here)))
+      (regrouped (looked
+      {next = λ o. Then (certifying o) (unless_over (after_found (ended_of it (yield_if it.number (pends pair) pair))))} found
+      (regrouped whole)))
+
+module _ {D : Type 0} {medium : Medium D} {scripts : List Declared} {names : List (List ℕ)} {c : ℕ} {pair : Pair} {v : Both D}
+    {x y : List ℕ} {result : Result (Unit {0}) Halt} (it : Running) where
+  over_at : (next : Next) → IsOver next → DoesFrom medium scripts names c (certifies it) pair v x y result
+      → DoesFrom medium scripts names c (end_by it next) pair v x y result
+  over_at AtEnd is does = does
+  over_at AtLimit is does = does
+  over_at next is does = absurd is
+
+  unended_at : (next : Next) → IsUnended next → DoesFrom medium scripts names c (Refuses (codes "not at end")) pair v x y result
+      → DoesFrom medium scripts names c (end_by it next) pair v x y result
+  unended_at AtEnd is does = absurd is
+  unended_at AtLimit is does = absurd is
+  unended_at next is does = does
+
+module _ {D : Type 0} {medium : Medium D} {scripts : List Declared} {u : Both D} (which : Option ℕ) {number : ℕ}
+    (is : meant_in which (state_in u.laptop).running ≡ Some number) {x : List ℕ} where
+  -- it is not at its end
+  pub not_ended : {y : List ℕ} → may_end_if_any (numbered number (state_in u.laptop).running)
+      (live_numbered number (state_in u.laptop).running (live_in u.laptop)) ≡ false
+      → KeepsDisks medium u u → y ≡ x ++ line (codes "not at end") → Does medium scripts (Ends which) u u x y (Err Over)
+  not_ended may keeps wrote =
+      for_meant which {next = if_runs (λ it. Then (Asks (next_of it)) (end_by it))} is keeps (λ names c pair it here found same.
+      asks_from refl (unended_at it (next_of it pair)
+      ((may_end_is _ _ _ _ here.client.is.state number it found).1 may (is_first it.number pair.client)) (refuses_from wrote (still here))))
+
+  module _ (over : IsDoneIn medium number u.laptop) where
+    -- it is certified, and this follows in each pair
+    pub certified_then : {v : Both D} {z : List ℕ} {result : Result (Unit {0}) Halt} → KeepsDisks medium u v
+        → ((names : List (List ℕ)) (c : ℕ) (pair : Pair) (it : Running) → UpStands medium scripts names c u pair
+        → clients.numbered number (kept pair) ≡ Some it → it.number ≡ number → DoesFrom medium scripts names c
+        (Goes (Certifying number) (after_found (ended_of it (yield_if it.number (pends pair) pair)))) pair v x z result)
+        → Does medium scripts (Ends which) u v x z result
+    certified_then keeps each =
+        for_meant which {next = if_runs (λ it. Then (Asks (next_of it)) (end_by it))} is keeps (λ names c pair it here found same.
+        asks_from refl (over_at it (next_of it pair) (over scripts pair.client it here.client.is found)
+        (also_from (λ text o n step. certified number it found step) (each names c pair it here found same))))
+
+    -- it has ended, this is what it was, and that is said
+    pub end_joined : {v w : Both D} {y z : List ℕ} (gone : Gone) {inner : Result Compared Halt} {result : Result (Unit {0}) Halt}
+        → inner ≡ Ok Same → IsGoneIfAny medium number u.laptop (told.Joined gone) → Does medium scripts (Certifying number) u v x y inner
+        → Does medium scripts (EndsAloud (ended_as gone)) v w y z result → Does medium scripts (Ends which) u w x z result
+    end_joined {v} {w} {y} {z} gone {result = result} was is_gone did more =
+        certified_then (keeps_then did.disks more.disks) (λ names c pair it here found same.
+        let e = is_gone scripts pair.client it here.client.is found in
+        let told_as : Ended = ended_as gone in
+        let gone_is : (record told_as { number = it.number }) ≡ ended_of it (yield_if it.number (pends pair) pair) =
+        (λ i. record {
+          number = it.number;
+          name = (e.name ∙ ap (λ (n : List ℕ). transaction_name n it.number)
+              (sym (yields_name it.number (has_any (kept pair).items) pair.client))) i;
+          printed = e.did i;
+          first = (e.class ∙ ap (λ (n : ℕ). is_first it.number (yielding n pair.client)) (sym same)) i;
+        }) ∙ ap (ended_of it) (yields_pair it.number pair) in
+        (goes_then {next = after_found (ended_of it (yield_if it.number (pends pair) pair))} was did
+        (subst (λ (g : Ended). Does medium scripts (EndsAloud g) v w y z result) gone_is more)).step _ _ _ here)
+
+    -- it starts again, which is said
+    pub end_again : {v : Both D} {y z : List ℕ} (read : ℕ) (question : Question) {inner : Result Compared Halt}
+        → inner ≡ Ok (Differs read question) → Does medium scripts (Certifying number) u v x y inner
+        → z ≡ y ++ again_line (transaction_name v.laptop.name number) read question → Does medium scripts (Ends which) u v x z (Ok tt)
+    end_again {v} {y} {z} read question was did wrote = certified_then did.disks (λ names c pair it here found same.
+        goes_from {next = after_found (ended_of it (yield_if it.number (pends pair) pair))} was did here (λ after there.
+        let name = there.client.is.name ∙ same_Some _ _ (sym there.client.named ∙ here.client.named)
+        ∙ sym (yields_name it.number (has_any (kept pair).items) pair.client)
+        ∙ ap (λ (p : Pair). p.client.name) (yields_pair it.number pair) in
+        says_from (wrote ∙ (λ i. y ++ again_line (transaction_name (name i) (sym same i)) read question)) there))

@@ -2,6 +2,4 @@ pub mod Words
 pub mod Scripts
 pub mod Pairs
 pub mod Queues
-pub mod Ending
 pub mod Saying
-pub mod Errands

@@ -1,16 +1,14 @@
 -- A client with the server, as the code has them: which pair of the machine they stand for, and how they change.
 use Rattle.std.specs.declared.alloc.Global.{Global}
-use Rattle.iot_tree.specs.declared.labels.OnConflict.{OnConflict}
-use Rattle.std.specs.Prelude.{◌+◌, ◌++◌, ◌≡◌, ◌≤◌}
-use Rattle.iot_exchange.specs.Words.{Option, Vec, ℕ, List, None, Some, Ok, Err, Over, NoMemory, Result, slice_get, Medium, Nodes, Want}
-use Rattle.iot_exchange.specs.Words.{IsRefresh, Call, Try, Errand, IsErrand}
+use Rattle.std.specs.Prelude.{◌+◌, ◌≡◌, ◌≤◌}
+use Rattle.iot_exchange.specs.Words.{Option, Vec, ℕ, List, None, Some, Ok, Err, Over, NoMemory, Result, slice_get, Medium, Nodes}
+use Rattle.iot_exchange.specs.Words.{Call, Try, Errand, IsErrand}
 use Rattle.iot_exchange.specs.Words.{Declared, Client, Commit, Pair, Node, Submission, Verdict, Lends, Judges, Exchange, KeepsDisk, StepsTo}
 use Rattle.iot_exchange.specs.Words.{Halt, SpellsVerdict, SpellsCut, KeepsRecords, ServerStands, IsHanded, IsNamedIn, disk_of, Message}
 use Rattle.iot_exchange.specs.Words.{ServerNode, Stands, LaptopStands, ClientStands, disk_in, Laptop, Stamps, nodes_of, is_up, stamps_in}
 use Rattle.iot_exchange.specs.Words.{stamps_of, true, on_both, KeepsBeside}
 use Rattle.iot_machine.specs.Refining.{StepFrom}
 use Rattle.iot_judging.specs.Lists.{Follows}
-use Rattle.iot_standing.specs.Scripts.{IsMeant}
 
 -- ---- a client and the server
 
@@ -48,18 +46,17 @@ UpStands medium scripts names c = PairStands c (IsAt (LaptopStands medium script
 abbrev pub AnyStands : {D : Type 0} → Medium D → List Declared → (names : List (List ℕ)) → (c : ℕ) → Both D → Pair → Type 0
 AnyStands medium scripts names c = PairStands c (IsAt (ClientStands medium scripts) names c) (ServerStands medium names)
 
--- both have their disks, the server its backup, too, and none was armed or given up; the server's have lost no commit
-pub record KeepsDisks {D : Type 0} (medium : Medium D) (old new : Both D) : Type 0 where
-  pub client : KeepsDisk medium (disk_in old.laptop) (disk_in new.laptop)
-  pub server : KeepsDisk (on_both medium) (disk_of old.server) (disk_of new.server)
-  pub beside : KeepsBeside medium old.server new.server
-  pub records : KeepsRecords (on_both medium) (disk_of old.server) (disk_of new.server)
-
--- the server has
+-- the server has its disks, of its backup, too, and none was armed or given up; they have lost no commit
 pub record KeepsServed {D : Type 0} (medium : Medium D) (old new : ServerNode D) : Type 0 where
   pub server : KeepsDisk (on_both medium) (disk_of old) (disk_of new)
   pub beside : KeepsBeside medium old new
   pub records : KeepsRecords (on_both medium) (disk_of old) (disk_of new)
+
+-- so it has them, and the client has its disk, which was not armed
+pub record KeepsDisks {D : Type 0} (medium : Medium D) (old new : Both D) : Type 0 where
+  pub client : KeepsDisk medium (disk_in old.laptop) (disk_in new.laptop)
+  pub served : KeepsServed medium old.server new.server
+  pub open served use *
 
 -- they stand for some pair, among some scripts; so the client is alive, and one of at most eight
 pub record IsReady {D : Type 0} (medium : Medium D) (w : Both D) : Type 0 where
@@ -79,12 +76,6 @@ pub record IsReadyWith {D : Type 0} (medium : Medium D) (scripts : List Declared
   pub pair : Pair
   pub stands : UpStands medium scripts names c w pair
   pub ready : IsReady medium w
-
--- they stand for some pair, among some scripts, among which this one is named, and the option means something
-pub record IsReadyFor {D : Type 0} (medium : Medium D) (script : Declared) (option : OnConflict) (w : Both D) : Type 0 where
-  pub scripts : List Declared
-  pub ready : IsReadyWith medium scripts w
-  pub meant : IsMeant scripts script option
 
 -- alive or down
 pub record IsStandingWith {D : Type 0} (medium : Medium D) (scripts : List Declared) (w : Both D) : Type 0 where
@@ -173,21 +164,12 @@ pub record Asked {D : Type 0} (medium : Medium D) (message : Message) (reply : O
   pub is : (scripts : List Declared) (names : List (List ℕ)) (c : ℕ) (query : Query) → AsksFor names message old.server query
       → Exchanges (UpStands medium scripts names c) (Spells query) (Exchange (request_of query)) reply old new x y
 
--- the client asks with this request for what it knows, and for something that it wants
-pub record IsAsked {D : Type 0} (laptop : Laptop D) (request : List ℕ) : Type 0 where
-  pub want : Want
-  pub is : IsRefresh laptop.place (stamps_in laptop) want request
-
--- the server is alive, and its tree has the stamps that it had
-pub record StaysUp {D : Type 0} (old new : ServerNode D) : Type 0 where
-  pub up : is_up new ≡ true
-  pub stamps : stamps_of new ≡ stamps_of old
-
--- so it is if it replied to a client that asks for objects
+-- if it replied to a client that asks for objects, the server is alive, and its tree has the stamps that it had
 abbrev pub LendsIfReplied : {D : Type 0} → Message → Option (Vec ℕ Global) → ServerNode D → ServerNode D → Type 0
 LendsIfReplied message None old new = Unit {0}
 LendsIfReplied message (Some reply) old new =
-    (client : ℕ) (held : Stamps) (errand : Errand) → IsErrand client held errand message.request.items → StaysUp old new
+    (client : ℕ) (held : Stamps) (errand : Errand) → IsErrand client held errand message.request.items
+    → (is_up new ≡ true) × (stamps_of new ≡ stamps_of old)
 
 -- a reply came to the message, and the client is as it was
 pub record Came {D : Type 0} (medium : Medium D) (message : Message) (reply : Vec ℕ Global) (old new : Both D) (x y : List ℕ) : Type 0 where

@@ -1,7 +1,8 @@
--- How the transactions that wait are synced.
-use Rattle.std.specs.Prelude.{◌≡◌, ◌∷◌}
-use Rattle.iot_exchange.specs.Words.{Bool, List, Some, Try, Asks, Answers, Then, Goes, either, is_drained, Refreshes, Pair, pends, sync_if}
-use Rattle.iot_exchange.specs.Words.{SyncsAll, Item, Laptop, Transaction, state_in}
+-- How the transactions that wait are synced, and what is said and done of one that has ended.
+use Rattle.std.specs.Prelude.{◌∷◌, ◌≡◌}
+use Rattle.iot_exchange.specs.Words.{Answers, Asks, Bool, Ended, Goes, Gone, Item, Laptop, List, Pair, Refreshes, Some, SyncsAll, Then}
+use Rattle.iot_exchange.specs.Words.{Transaction, Try, either, end_line, is_drained, name_of, pends, state_in, sync_if, syncs_or_waits}
+use Rattle.iot_machine.specs.Calls.{Says}
 
 -- the first that waits has this name, and this is so of it
 pub record First {D : Type 0} (Is : Item → Type 0) (laptop : Laptop D) (t : Transaction) : Type 0 where
@@ -18,3 +19,16 @@ SyncsNext = Then (Asks pends) sync_if
 -- a drain, but for what it says if it has nothing to say
 abbrev pub DrainsQuietly : Try Pair (Unit {0})
 DrainsQuietly = Goes SyncsAll (λ _. Then (Asks is_drained) (either Refreshes (Answers (Some tt))))
+
+-- what is known of one that ends, as its client tells it
+abbrev pub ended_as : Gone → Ended
+ended_as gone = record {
+  number = gone.printed.transaction.number;
+  name = name_of gone.printed.transaction;
+  printed = gone.printed.output;
+  first = gone.first;
+}
+
+-- that it ends is said; and it is synced at once, or waits
+abbrev pub EndsAloud : Ended → Try Pair (Unit {0})
+EndsAloud gone = Then (Says (λ _. end_line gone.name)) (λ _. syncs_or_waits gone gone.first)

@@ -1,12 +1,11 @@
 -- The words of the contracts and of their proofs, from one place.
-pub use Rattle.std.specs.Prelude.{Bool, Err, IfErr, IfOk, IfSome, List, None, Ok, OnOk, Option, Result, Some, Vec, [], codes, false, leb}
-pub use Rattle.std.specs.Prelude.{length, map, slice_get, true, ℕ}
+pub use Rattle.std.specs.Prelude.{[], Bool, Err, IfOk, List, None, Ok, OnOk, Option, Result, Some, Vec, codes, false, leb, length, map}
+pub use Rattle.std.specs.Prelude.{slice_get, true, ℕ}
 pub use Rattle.iot_text.specs.Paths.{path_cmp}
 pub use Rattle.iot_tree.specs.Profiles.{IsProfile, IsWalkLimit, Profile}
-pub use Rattle.iot_tree.specs.Snapshots.{is_known, known, paths_where}
-pub use Rattle.iot_tree.specs.Tree.{IsWhole, Nodes, Path, Row, root_alone}
+pub use Rattle.iot_tree.specs.Tree.{IsWhole, Nodes, Path, root_alone}
 pub use Rattle.iot_tree.specs.declared.acts.Read.{Read}
-pub use Rattle.iot_tree.specs.declared.labels.OnConflict.TheVariants.{Abort, Manual, Reexec, Resolver}
+pub use Rattle.iot_tree.specs.declared.labels.OnConflict.TheVariants.{Abort, Manual}
 pub use Rattle.iot_tree.specs.declared.labels.Way.TheVariants.{Certified}
 pub use Rattle.iot_tree.specs.declared.limits.TheConstants.{ACT_LIMIT}
 pub use Rattle.iot_tree.specs.declared.nodes.Node.TheVariants.{FarDir}
@@ -42,33 +41,27 @@ pub use Rattle.iot_judging.specs.Errands.{IsErrand, base_of, changes_to, paths_f
 pub use Rattle.iot_judging.specs.Verdicts.{SpellsVerdict}
 pub use Rattle.iot_machine.specs.Calls.{Answers, Asks, At, Call, Gets, Goes, OrSays, Repeats, Tells, Then, Try, Whole, either, or_text}
 pub use Rattle.iot_machine.specs.Calls.{unless_over}
-pub use Rattle.iot_machine.specs.Clients.{Acts, AtEnd, AtLimit, ClientState, Declared, Fetches, Next, Plan, Resolved, act_once, again}
-pub use Rattle.iot_machine.specs.Clients.{begin}
-pub use Rattle.iot_machine.specs.Clients.{end, fetch, hold, leave, local_run, meant, most_running, new_client, next_away, next_by}
-pub use Rattle.iot_machine.specs.Clients.{next_step}
-pub use Rattle.iot_machine.specs.Clients.{plan_by, plan_of, reach, repair, resolution_of, so_far}
+pub use Rattle.iot_machine.specs.Clients.{Acts, AtEnd, AtLimit, ClientState, Declared, Next, Plan, act_once, begin, fetch, hold, leave}
+pub use Rattle.iot_machine.specs.Clients.{local_run, meant, most_running, new_client, next_away, next_by, next_step, plan_by, plan_of}
+pub use Rattle.iot_machine.specs.Clients.{reach, repair, resolution_of, so_far}
 pub use Rattle.iot_machine.specs.Events.{BeginsAloud, Closes, Discards, Drains, Hoards, IfUp, ReadsOf, Refreshes, Repairs, Runs, StepsAloud}
-pub use Rattle.iot_machine.specs.Events.{Walks}
-pub use Rattle.iot_machine.specs.Events.{begin_text, chosen, is_drained, place_text, run_line, run_steps, running_in, runs_through}
-pub use Rattle.iot_machine.specs.Events.{says_reads, step_text, task_part}
+pub use Rattle.iot_machine.specs.Events.{Walks, begin_text, chosen, is_drained, place_text, run_line, running_in, runs_through, says_reads}
+pub use Rattle.iot_machine.specs.Events.{step_text, task_part}
 pub use Rattle.iot_machine.specs.Machine.{Client, Commit, Pair, break, is_first, its_server, kept, no_script, script_at}
 pub use Rattle.iot_machine.specs.Nodes.{Node}
 pub use Rattle.iot_machine.specs.Options.{OnConflict}
 pub use Rattle.iot_machine.specs.Recorded.{items_kept, queue_kept, stage_kept}
-pub use Rattle.iot_machine.specs.Serving.{Conflict, Errand, Judges, Lends, Refresh, Settled, Submission, Verdict, Walk, lent}
+pub use Rattle.iot_machine.specs.Serving.{Conflict, Errand, Judges, Lends, Refresh, Settled, Submission, Verdict, Walk}
 pub use Rattle.iot_machine.specs.Sound.{CanResolve, IsPlanned}
 pub use Rattle.iot_machine.specs.Texts.{abort_line, again_line, begin_line, conflict_line, discard_line, end_line, fetch_line, hoard_line}
-pub use Rattle.iot_machine.specs.Texts.{line, walk_line}
-pub use Rattle.iot_machine.specs.Texts.{manual_line, pending_line, question_text, queue_text, refresh_line, repair_line, resolve_line}
-pub use Rattle.iot_machine.specs.Texts.{settled_line, step_line, transaction_name}
+pub use Rattle.iot_machine.specs.Texts.{line, manual_line, pending_line, question_text, queue_text, refresh_line, repair_line, resolve_line}
+pub use Rattle.iot_machine.specs.Texts.{settled_line, step_line, transaction_name, walk_line}
 pub use Rattle.iot_machine.specs.Transactions.{Begins, Brings, Compared, Compares, Differs, Ended, Ends, Exchange, Handles, Holds, IfManual}
 pub use Rattle.iot_machine.specs.Transactions.{Moved, Notes, NotesAloud, Refuses, Same, Starts, Stays, Steps, Submits, Synced, Syncs}
 pub use Rattle.iot_machine.specs.Transactions.{SyncsAll, Takes, Unanswered, Yields, certifies, end_by, ended_of, ends_by, exchange_by}
-pub use Rattle.iot_machine.specs.Transactions.{fetched}
-pub use Rattle.iot_machine.specs.Transactions.{has_any, holds, if_manual, if_runs, is_full, is_manual, item_name, joins, moves, next_of}
-pub use Rattle.iot_machine.specs.Transactions.{pends, resolves, runs, starts_if, step_by, step_of, submission_of, submits, sync_at}
-pub use Rattle.iot_machine.specs.Transactions.{sync_head}
-pub use Rattle.iot_machine.specs.Transactions.{sync_if, syncs_or_waits, told, took, unless_stopped, waits_unless, yield_if}
+pub use Rattle.iot_machine.specs.Transactions.{fetched, has_any, holds, if_manual, if_runs, is_full, is_manual, item_name, moves, next_of}
+pub use Rattle.iot_machine.specs.Transactions.{pends, resolves, runs, step_by, step_of, submission_of, submits, sync_at, sync_head, sync_if}
+pub use Rattle.iot_machine.specs.Transactions.{syncs_or_waits, told, took, unless_stopped, waits_unless, yield_if}
 pub use Rattle.iot_node.specs.Disks.{KeepsDisk}
 pub use Rattle.iot_node.specs.Lines.{name_of}
 pub use Rattle.iot_machine.specs.Refining.{StepsTo}
@@ -78,27 +71,21 @@ pub use Rattle.iot_node.specs.declared.lines.Transaction.{Transaction}
 pub use Rattle.iot_server_node.specs.Disks.{on_both}
 pub use Rattle.iot_server_node.specs.Messages.{IsSomeRequest, SpellsCut, said_of}
 pub use Rattle.iot_server_node.specs.Records.{KeepsRecords}
-pub use Rattle.iot_server_node.specs.Servers.{HavingAnswered, IsHanded, IsNamedIn, IsSubmission, ServerIsSound, ServerStands, ServesBy}
-pub use Rattle.iot_server_node.specs.Servers.{KeepsBeside, disk_of, is_up, stamps_of}
+pub use Rattle.iot_server_node.specs.Servers.{HavingAnswered, IsHanded, IsNamedIn, IsSubmission, KeepsBeside, ServerIsSound, ServerStands}
+pub use Rattle.iot_server_node.specs.Servers.{ServesBy, disk_of, is_up, stamps_of}
 pub use Rattle.iot_server_node.specs.declared.message.Message.{Message}
 pub use Rattle.iot_server_node.specs.declared.server.Served.{Served}
 pub use Rattle.iot_server_node.specs.declared.server.ServerNode.{ServerNode}
 pub use Rattle.iot_laptop.specs.Alone.{CertifiesAlone, ComparesAlone, NotesAlone, StartsAlone, YieldsAlone, YieldsAndNotes, certify_alone}
 pub use Rattle.iot_laptop.specs.Alone.{change_by, notes_found, set_class, yielding, yields_by}
-pub use Rattle.iot_laptop.specs.Calls.{AsksAll, Changes, EndsAlone, HandsIn, IsDoneIn, IsEndOf, IsGoneIfAny, IsHeadPlan, IsNext, NextIs}
-pub use Rattle.iot_laptop.specs.Calls.{Plans}
-pub use Rattle.iot_standing.specs.States.{IsOver, IsUnended}
-pub use Rattle.iot_laptop.specs.Calls.{TakesStep, acts_in, compared, compared_if, decision, decision_on, done, head_name, head_reads}
-pub use Rattle.iot_standing.specs.States.{head_option, head_plan}
-pub use Rattle.iot_laptop.specs.Calls.{TakesStamps, UnlessNoMemory, label_in, meant_in, undecided_word}
+pub use Rattle.iot_laptop.specs.Calls.{AsksAll, Changes, EndsAlone, HandsIn, IsDoneIn, IsGoneIfAny, IsHeadPlan, IsNext, NextIs, Plans}
+pub use Rattle.iot_laptop.specs.Calls.{TakesStamps, TakesStep, UnlessNoMemory, acts_in, compared_if, decision, decision_on, done, head_name}
+pub use Rattle.iot_laptop.specs.Calls.{head_reads, label_in, meant_in, undecided_word}
+pub use Rattle.iot_standing.specs.States.{IsOver, IsUnended, RunStand, head_option, head_plan, told_change, waits_of}
 pub use Rattle.iot_standing.specs.Kept.{ItemStands, ItemsStand, ResolutionStands, StageStands}
-pub use Rattle.iot_laptop.specs.Laptops.{ClientStands, IsFirst, LaptopStands, Reclassed, Relinked}
-pub use Rattle.iot_standing.specs.States.{RunStand, RunningStands}
-pub use Rattle.iot_laptop.specs.Laptops.{SamePlace, Stands, StandsAnyhow, after_passage, awake, disk_in, fallen, is_alive, live_in}
-pub use Rattle.iot_laptop.specs.Laptops.{KeepsTrails, stamps_in, state_in}
-pub use Rattle.iot_standing.specs.States.{waits_of}
+pub use Rattle.iot_laptop.specs.Laptops.{ClientStands, IsFirst, KeepsTrails, LaptopStands, Reclassed, Relinked, SamePlace, Stands}
+pub use Rattle.iot_laptop.specs.Laptops.{StandsAnyhow, after_passage, awake, disk_in, fallen, is_alive, live_in, stamps_in, state_in}
 pub use Rattle.iot_laptop.specs.Messages.{BringsTree, IsVerdict, SpellsTree, verdict_of}
-pub use Rattle.iot_standing.specs.States.{told_change}
 pub use Rattle.iot_standing.specs.Scripts.{HasNamed, IsNamed, ItemIsNamed, option_named, script_named}
 pub use Rattle.iot_laptop.specs.declared.laptop.Laptop.{Laptop}
 pub use Rattle.iot_laptop.specs.declared.needs.Gone.{Gone}

@@ -25,8 +25,7 @@ pub(crate) fn repair<D: Disk>(
     match laptop.decision() {
         Ok(transaction) => {
             laptop.repair(alloc, script, out)?;
-            say_repair(&transaction, script, out)?;
-            Ok(())
+            Ok(say_repair(&transaction, script, out)?)
         }
         Err(undecided) => {
             say(undecided.word(), out)?;
@@ -48,8 +47,7 @@ pub(crate) fn discard<D: Disk>(
     match laptop.decision() {
         Ok(transaction) => {
             laptop.discard(alloc, out)?;
-            say_of(b"discard ", &transaction, out)?;
-            Ok(())
+            Ok(say_of(b"discard ", &transaction, out)?)
         }
         Err(undecided) => {
             say(undecided.word(), out)?;

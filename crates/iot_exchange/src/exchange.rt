@@ -13,7 +13,7 @@ use iot_text::{NoMemory, Text};
 use std::alloc::Global;
 
 /// Sends a message to the server over the client's link: the reply, if it comes. What the server commits is said.
-#[tactic(auto, using(crate::proofs::DoesLaws::keeps_served, crate::proofs::DoesLaws::keeps_passed))]
+#[tactic(auto, using(crate::proofs::DoesLaws::keeps_served))]
 pub(crate) fn exchange<D: Disk>(
     laptop: &mut Laptop<D>,
     server: &mut ServerNode<D>,
@@ -79,7 +79,7 @@ fn say_committed(message: &Message, number: Option<u64>, out: &mut Text) -> Resu
 }
 
 /// No message gets through, since the client's link is not up. What runs is second class then.
-#[tactic(auto, using(crate::proofs::DoesLaws::keeps_passed))]
+#[tactic(auto, using(crate::proofs::DoesLaws::keeps_served))]
 pub(crate) fn miss<D: Disk>(laptop: &mut Laptop<D>, server: &ServerNode<D>)
     requires ready { IsReady D.medium (two laptop.old server.now) }
     requires down { laptop.old.link.up ≡ false }

@@ -53,10 +53,7 @@ pub(crate) fn say_reads<D: Disk>(laptop: &Laptop<D>, place: u64, out: &mut Text)
         → Does D.medium scripts (ReadsOf place) (two laptop.now server) (two laptop.now server) out.old out.new result }
 {
     match laptop.client().queue().items().get(place as usize - 1) {
-        Some(item) => {
-            reads(item, out)?;
-            Ok(())
-        }
+        Some(item) => Ok(reads(item, out)?),
         None => {
             say(b"nothing", out)?;
             Err(Halt::Over)

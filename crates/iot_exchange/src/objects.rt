@@ -4,8 +4,8 @@ ghost use Rattle.iot_exchange.specs.Words.{IsFirst, Hoards, Takes, List, [], IfO
 ghost use Rattle.iot_exchange.specs.Words.{hold, fetch, Nodes, OnOk, KeepsDisk, disk_in, SamePlace, Stands, TakesStamps};
 ghost use Rattle.iot_exchange.specs.Words.{Refreshes, Holds, Want as Wanted, Walks, IsProfile, IsWalkLimit, IsErrand, Refresh, base_of};
 ghost use Rattle.iot_exchange.specs.Words.{BringsTree, SpellsTree, Changes};
-ghost use Rattle.iot_exchange.specs.Errands.{errand_of, MayAsk};
-ghost use Rattle.iot_exchange.specs.Pairs.{two, IsReady, IsAsked, Does};
+ghost use Rattle.iot_exchange.specs.Scripts.{errand_of, MayAsk};
+ghost use Rattle.iot_exchange.specs.Pairs.{two, IsReady, Does};
 
 use crate::errand::Errand;
 use crate::exchange::{exchange, miss};
@@ -32,8 +32,7 @@ pub(crate) fn hoard<D: Disk>(
 {
     let want = Want::Below(path.copy(alloc)?);
     take(laptop, server, alloc, Errand::Refresh(&want), out)?;
-    say_hoard(laptop.name(), path, out)?;
-    Ok(())
+    Ok(say_hoard(laptop.name(), path, out)?)
 }
 
 /// Fetches anew what the client knows.
@@ -48,8 +47,7 @@ pub(crate) fn refresh<D: Disk>(
         (two laptop.old server.old) (two laptop.new server.new) out.old out.new result }
 {
     take(laptop, server, alloc, Errand::Refresh(&Want::Nothing), out)?;
-    say_refresh(laptop.name(), out)?;
-    Ok(())
+    Ok(say_refresh(laptop.name(), out)?)
 }
 
 /// Takes along what the profile wishes, as much as fits into the limit.
@@ -68,8 +66,7 @@ pub(crate) fn walk<D: Disk>(
         (two laptop.old server.old) (two laptop.new server.new) out.old out.new result }
 {
     take(laptop, server, alloc, Errand::Walk { profile, limit }, out)?;
-    say_walk(alloc, laptop.name(), laptop.held(), out)?;
-    Ok(())
+    Ok(say_walk(alloc, laptop.name(), laptop.held(), out)?)
 }
 
 /// Brings what it asks for, unless a transaction runs or waits.
@@ -120,9 +117,8 @@ pub(crate) fn bring<D: Disk>(
         miss(laptop, server);
         return Ok(false);
     }
-    let request = ask(laptop, alloc, errand)?;
     let message = Message {
-        request,
+        request: ask(laptop, alloc, errand)?,
         handed: None,
     };
     match exchange(laptop, server, alloc, &message, out)? {
@@ -184,7 +180,7 @@ pub(crate) fn fetch<D: Disk>(
     requires ready { IsReady D.medium (two laptop.old server.old) }
     requires first { IsFirst number laptop.old }
     requires none { (state_in laptop.old).items ≡ [] }
-    requires asked { IsAsked laptop.old request }
+    requires asked { (want : Wanted) × IsRefresh laptop.old.place (stamps_in laptop.old) want request }
     ensures { (want : Wanted) → IsRefresh laptop.old.place (stamps_in laptop.old) want request
         → (scripts : List Declared) → Does D.medium scripts (Holds (fetch number) (Refresh want))
         (two laptop.old server.old) (two laptop.new server.new) out.old out.new result }

@@ -121,8 +121,7 @@ fn resolve<D: Disk>(
             let Some(declared) = scripts.iter().find(|declared| plan.script == declared.name) else {
                 unreachable!()
             };
-            let code = declared.script.shared()?;
-            laptop.resolve(alloc, &reply, code, out)?;
+            laptop.resolve(alloc, &reply, declared.script.shared()?, out)?;
             say_resolve(transaction, &plan, out)?;
             Ok(Synced::Moved)
         }
@@ -153,8 +152,7 @@ pub(crate) fn sync_all<D: Disk>(
         if !laptop.waits() {
             return Ok(());
         }
-        let synced = sync(laptop, server, alloc, scripts, out)?;
-        if !synced.moves() {
+        if !sync(laptop, server, alloc, scripts, out)?.moves() {
             return Ok(());
         }
     }

@@ -51,10 +51,8 @@ pub fn perform<D: Disk>(
     }
     match carry_out(laptop, server, alloc, scripts, task, out) {
         Ok(()) => Ok(()),
-        Err(halt) => match halt {
-            Halt::Over => Ok(()),
-            Halt::NoMemory => Err(NoMemory),
-        },
+        Err(Halt::Over) => Ok(()),
+        Err(Halt::NoMemory) => Err(NoMemory),
     }
 }
 
@@ -100,10 +98,7 @@ fn carry_out<D: Disk>(
         Task::Drain => drain(laptop, server, alloc, scripts, out),
         Task::Repair { script } => repair(laptop, alloc, &scripts[*script as usize].name, out),
         Task::Discard => discard(laptop, alloc, out),
-        Task::Queue => {
-            say_queue(laptop, alloc, out)?;
-            Ok(())
-        }
+        Task::Queue => Ok(say_queue(laptop, alloc, out)?),
         Task::Reads { item } => say_reads(laptop, *item, out),
     }
 }

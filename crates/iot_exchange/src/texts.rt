@@ -14,8 +14,11 @@ use iot_text::{Name, NoMemory, Path, Text};
 use iot_tree::{ACT_LIMIT, OnConflict, Question, Tree};
 use std::alloc::Global;
 
+/// How it went to say a line.
+pub(crate) type Said = Result<(), NoMemory>;
+
 /// `hoard C P`
-pub(crate) fn say_hoard(name: &Name, path: &Path, out: &mut Text) -> Result<(), NoMemory>
+pub(crate) fn say_hoard(name: &Name, path: &Path, out: &mut Text) -> Said
     ensures { OnOk result (out.new ≡ out.old ++ hoard_line name.now path.now) }
 {
     out.append(b"hoard ")?;
@@ -26,7 +29,7 @@ pub(crate) fn say_hoard(name: &Name, path: &Path, out: &mut Text) -> Result<(), 
 }
 
 /// `refresh C`
-pub(crate) fn say_refresh(name: &Name, out: &mut Text) -> Result<(), NoMemory>
+pub(crate) fn say_refresh(name: &Name, out: &mut Text) -> Said
     ensures { OnOk result (out.new ≡ out.old ++ refresh_line name.now) }
 {
     out.append(b"refresh ")?;
@@ -35,12 +38,7 @@ pub(crate) fn say_refresh(name: &Name, out: &mut Text) -> Result<(), NoMemory>
 }
 
 /// `walk C K paths B bytes`: how many paths of the tree are known, and how much of a limit these take.
-pub(crate) fn say_walk(
-    alloc: Global,
-    name: &Name,
-    held: &Tree,
-    out: &mut Text,
-) -> Result<(), NoMemory>
+pub(crate) fn say_walk(alloc: Global, name: &Name, held: &Tree, out: &mut Text) -> Said
     ensures { OnOk result (out.new ≡ out.old ++ walk_line name.now held.now) }
 {
     let known = known(alloc, held)?;
@@ -54,24 +52,18 @@ pub(crate) fn say_walk(
 }
 
 /// `begin TID S first`, or `second`
-pub(crate) fn say_begin(
-    transaction: &Transaction,
-    script: &Name,
-    first: bool,
-    out: &mut Text,
-) -> Result<(), NoMemory>
-    ensures { OnOk result (out.new ≡ out.old
-        ++ begin_line (name_of transaction.now) script.now first) }
+pub(crate) fn say_begin(transaction: &Transaction, name: &Name, first: bool, out: &mut Text) -> Said
+    ensures { OnOk result (out.new ≡ out.old ++ begin_line (name_of transaction.now) name.now first) }
 {
     out.append(b"begin ")?;
     transaction.write_to(out)?;
     out.push(b' ')?;
-    out.append(script.as_bytes())?;
+    out.append(name.as_bytes())?;
     out.append(if first { b" first\n" } else { b" second\n" })
 }
 
 /// `fetch P`, or `fetch P away` if nothing came.
-pub(crate) fn say_fetch(path: &Path, away: bool, out: &mut Text) -> Result<(), NoMemory>
+pub(crate) fn say_fetch(path: &Path, away: bool, out: &mut Text) -> Said
     ensures { OnOk result (out.new ≡ out.old ++ fetch_line path.now away) }
 {
     out.append(b"fetch ")?;
@@ -80,14 +72,8 @@ pub(crate) fn say_fetch(path: &Path, away: bool, out: &mut Text) -> Result<(), N
 }
 
 /// `step TID K acts`, and whether it is at its end or at its limit.
-pub(crate) fn say_step(
-    transaction: &Transaction,
-    acts: u64,
-    at_end: bool,
-    out: &mut Text,
-) -> Result<(), NoMemory>
-    ensures { OnOk result (out.new ≡ out.old
-        ++ step_line (name_of transaction.now) acts (place_said at_end acts)) }
+pub(crate) fn say_step(transaction: &Transaction, acts: u64, at_end: bool, out: &mut Text) -> Said
+    ensures { OnOk result (out.new ≡ out.old ++ step_line (name_of transaction.now) acts (place_said at_end acts)) }
 {
     out.append(b"step ")?;
     transaction.write_to(out)?;
@@ -105,7 +91,7 @@ pub(crate) fn say_step(
 }
 
 /// This word of a transaction, as `end TID`.
-pub(crate) fn say_of(word: &[u8], transaction: &Transaction, out: &mut Text) -> Result<(), NoMemory>
+pub(crate) fn say_of(word: &[u8], transaction: &Transaction, out: &mut Text) -> Said
     ensures { OnOk result (out.new ≡ out.old ++ line (word.now ++ name_of transaction.now)) }
 {
     out.append(word)?;
@@ -114,13 +100,8 @@ pub(crate) fn say_of(word: &[u8], transaction: &Transaction, out: &mut Text) -> 
 }
 
 /// What a client is told of its transaction, and what becomes of it.
-pub(crate) fn say_told(
-    transaction: &Transaction,
-    told: &Told,
-    out: &mut Text,
-) -> Result<(), NoMemory>
-    ensures { OnOk result (out.new ≡ out.old
-        ++ told_text (name_of transaction.now) (verdict_of told.now.verdict) told.now.option) }
+pub(crate) fn say_told(transaction: &Transaction, told: &Told, out: &mut Text) -> Said
+    ensures { OnOk result (out.new ≡ out.old ++ told_text (name_of transaction.now) (verdict_of told.now.verdict) told.now.option) }
 {
     match &told.verdict {
         Verdict::Settled { number } => {
@@ -148,7 +129,7 @@ pub(crate) fn say_read(
     read: u64,
     question: &Question,
     out: &mut Text,
-) -> Result<(), NoMemory>
+) -> Said
     ensures { OnOk result (out.new ≡ out.old ++ line (word.now ++ name_of transaction.now ++ codes " read " ++ decimal read
         ++ 32 ∷ question_text question.now)) }
 {
@@ -162,13 +143,8 @@ pub(crate) fn say_read(
 }
 
 /// `resolve TID S`, or `resolve TID reexec`
-pub(crate) fn say_resolve(
-    transaction: &Transaction,
-    plan: &Plan,
-    out: &mut Text,
-) -> Result<(), NoMemory>
-    ensures { OnOk result (out.new ≡ out.old
-        ++ resolve_line (name_of transaction.now) (resolver_said plan.now)) }
+pub(crate) fn say_resolve(transaction: &Transaction, plan: &Plan, out: &mut Text) -> Said
+    ensures { OnOk result (out.new ≡ out.old ++ resolve_line (name_of transaction.now) (resolver_said plan.now)) }
 {
     out.append(b"resolve ")?;
     transaction.write_to(out)?;
@@ -182,13 +158,8 @@ pub(crate) fn say_resolve(
 }
 
 /// `repair TID S`
-pub(crate) fn say_repair(
-    transaction: &Transaction,
-    script: &Name,
-    out: &mut Text,
-) -> Result<(), NoMemory>
-    ensures { OnOk result (out.new ≡ out.old
-        ++ repair_line (name_of transaction.now) script.now) }
+pub(crate) fn say_repair(transaction: &Transaction, script: &Name, out: &mut Text) -> Said
+    ensures { OnOk result (out.new ≡ out.old ++ repair_line (name_of transaction.now) script.now) }
 {
     out.append(b"repair ")?;
     transaction.write_to(out)?;
@@ -198,7 +169,7 @@ pub(crate) fn say_repair(
 }
 
 /// `pending TID`, and what it printed.
-pub(crate) fn say_pending(printed: &Printed, out: &mut Text) -> Result<(), NoMemory>
+pub(crate) fn say_pending(printed: &Printed, out: &mut Text) -> Said
     ensures { OnOk result (out.new ≡ out.old ++ (pending_line (name_of printed.now.transaction) ++ printed.now.output)) }
 {
     say_of(b"pending ", &printed.transaction, out)?;

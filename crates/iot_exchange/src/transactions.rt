@@ -1,13 +1,9 @@
 //! What a client does with its transactions: they begin, are stepped and end.
-ghost use Rattle.iot_laptop.specs.Calls.{Begins as Starts};
-ghost use Rattle.std.specs.Prelude.{◌<◌, length};
-ghost use Rattle.iot_exchange.specs.Words.{KeepsTrails, UnlessNoMemory, done, most_running};
-ghost use Rattle.iot_exchange.specs.Words.{Begins, BeginsAloud, StepsAloud, Ends, List, Repeats, Declared};
-ghost use Rattle.iot_exchange.specs.Words.{OnConflict as Chosen, Steps, Stands, SamePlace, state_in, disk_in, KeepsDisk};
+ghost use Rattle.iot_exchange.specs.Words.{Begins, BeginsAloud, Declared, Ends, List, OnConflict as Chosen, Repeats, Steps, StepsAloud};
 ghost use Rattle.iot_exchange.specs.Scripts.{script_of, scripts_of};
-ghost use Rattle.iot_standing.specs.Scripts.{Means};
-ghost use Rattle.iot_exchange.specs.Pairs.{two, IsReady, IsReadyWith, IsReadyFor, Does};
-ghost use Rattle.iot_exchange.specs.Ending.{EndsAloud, ended_as};
+ghost use Rattle.iot_standing.specs.Scripts.{IsMeant, Means};
+ghost use Rattle.iot_exchange.specs.Pairs.{two, IsReady, IsReadyWith, Does};
+ghost use Rattle.iot_exchange.specs.Queues.{EndsAloud, ended_as};
 
 use crate::declared::DeclaredScript;
 use crate::errand::Errand;
@@ -35,7 +31,8 @@ pub(crate) fn begin_aloud<D: Disk>(
     option: OnConflict,
     out: &mut Text,
 ) -> Result<(), Halt>
-    requires { IsReadyFor D.medium (script_of script.now) option (two laptop.old server.old) }
+    requires { (scripts : List Declared) × IsReadyWith D.medium scripts (two laptop.old server.old)
+        × IsMeant scripts (script_of script.now) option }
     ensures { (scripts : List Declared) (on_conflict : Chosen Declared) → Means scripts (script_of script.now) option on_conflict
         → Does D.medium scripts (BeginsAloud (script_of script.now) on_conflict)
         (two laptop.old server.old) (two laptop.new server.new) out.old out.new result }
@@ -44,15 +41,14 @@ pub(crate) fn begin_aloud<D: Disk>(
     match laptop.run(number) {
         Some(running) => {
             let transaction = laptop.transaction(number);
-            say_begin(&transaction, &running.script, running.first, out)?;
-            Ok(())
+            Ok(say_begin(&transaction, &running.script, running.first, out)?)
         }
         None => Ok(()),
     }
 }
 
 /// Begins the client's next transaction, unless as many run as may, and gives its number. It is first class if a refresh comes.
-#[tactic(auto, using(crate::proofs::ExchangeLaws::has_room, crate::proofs::ExchangeLaws::no_items))]
+#[tactic(auto, using(std::proofs::lemmas::Bool::Decides::nat_tests, crate::proofs::ExchangeLaws::no_items))]
 pub(crate) fn begin<D: Disk>(
     laptop: &mut Laptop<D>,
     server: &mut ServerNode<D>,
@@ -70,31 +66,11 @@ pub(crate) fn begin<D: Disk>(
         say(b"busy", out)?;
         return Err(Halt::Over);
     }
+    let code = script.script.shared()?;
     if laptop.waits() {
-        return start(laptop, alloc, script, option, false, out);
+        return laptop.begin(alloc, &script.name, code, option, false, out);
     }
     let first = bring(laptop, server, alloc, Errand::Refresh(&Want::Nothing), out)?;
-    start(laptop, alloc, script, option, first, out)
-}
-
-/// Begins the client's next transaction, first class or not, and gives its number. Fewer run than may.
-#[tactic(auto, using(crate::proofs::DoesLaws::laptop_keeps))]
-fn start<D: Disk>(
-    laptop: &mut Laptop<D>,
-    alloc: Global,
-    script: &DeclaredScript,
-    option: OnConflict,
-    first: bool,
-    out: &mut Text,
-) -> Result<u64, Halt>
-    requires stands { Stands D.medium laptop.old }
-    requires room { length (state_in laptop.old).running < most_running }
-    ensures does { Starts D.medium (script_of script.now) option first laptop.old laptop.new out.old out.new result }
-    ensures trails { UnlessNoMemory (done result) (KeepsTrails laptop.old laptop.new) }
-    ensures place { SamePlace laptop.old laptop.new }
-    ensures disk { KeepsDisk D.medium (disk_in laptop.old) (disk_in laptop.new) }
-{
-    let code = script.script.shared()?;
     laptop.begin(alloc, &script.name, code, option, first, out)
 }
 
@@ -122,8 +98,7 @@ pub(crate) fn step_aloud<D: Disk>(
         Some(running) => {
             let transaction = laptop.transaction(number);
             let acts = running.acts.len() as u64;
-            say_step(&transaction, acts, laptop.at_end(number), out)?;
-            Ok(())
+            Ok(say_step(&transaction, acts, laptop.at_end(number), out)?)
         }
         None => Ok(()),
     }
@@ -211,8 +186,7 @@ pub(crate) fn end<D: Disk>(
     match laptop.end(alloc, number, out)? {
         Certified::Joined(gone) => join(laptop, server, alloc, scripts, &gone, out),
         Certified::Again { read, question } => {
-            say_read(b"again ", &laptop.transaction(number), read, &question, out)?;
-            Ok(())
+            Ok(say_read(b"again ", &laptop.transaction(number), read, &question, out)?)
         }
     }
 }
@@ -233,14 +207,10 @@ fn join<D: Disk>(
 {
     say_of(b"end ", &gone.printed.transaction, out)?;
     if !gone.first {
-        say_pending(&gone.printed, out)?;
-        return Ok(());
+        return Ok(say_pending(&gone.printed, out)?);
     }
     match sync(laptop, server, alloc, scripts, out)? {
-        Synced::Unanswered => {
-            say_pending(&gone.printed, out)?;
-            Ok(())
-        }
+        Synced::Unanswered => Ok(say_pending(&gone.printed, out)?),
         Synced::Moved => Ok(()),
         Synced::Stays => Ok(()),
     }

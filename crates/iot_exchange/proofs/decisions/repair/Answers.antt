@@ -11,16 +11,14 @@ repair-requires-clause-manual g c = (decided c.args.laptop.now _ (sym c.decision
 pub returns-in_err-repair-in-Ok : goal.returns-in_err-repair-in-Ok
 returns-in_err-repair-in-Ok g c server ready scripts declared named is =
     let noted = by_client (notes (repair declared)) ready.keeps c.repair.ensures.place c.repair.ensures.trails
-    (c.repair.ensures.does scripts declared named is)
-    c.repair.ensures.disk in
+    (c.repair.ensures.does scripts declared named is) c.repair.ensures.disk in
     decides (sym c.decision.ensures ∙ c.in-Ok.is) noted.disks (λ names at mi its_name pair here.
     (hands_on c.in_err-repair-in-Ok.was c.from_residual.ensures.1 noted).step _ _ _ here)
 
 pub returns-in_ok-say_repair-in-Ok : goal.returns-in_ok-say_repair-in-Ok
 returns-in_ok-say_repair-in-Ok g c server ready scripts declared named is =
     let noted = by_client (notes (repair declared)) ready.keeps c.repair.ensures.place c.repair.ensures.trails
-    (c.repair.ensures.does scripts declared named is)
-    c.repair.ensures.disk in
+    (c.repair.ensures.does scripts declared named is) c.repair.ensures.disk in
     decides (sym c.decision.ensures ∙ c.in-Ok.is) noted.disks (λ names at mi its_name pair here.
     goes_from c.in_ok-repair-in-Ok.was noted here (λ after there. says_from (c.in_ok-say_repair-in-Ok.ensures
     ∙ (λ i. c.repair.new.out ++ repair_line (sym (its_name after there) i) (sym is i))) there))

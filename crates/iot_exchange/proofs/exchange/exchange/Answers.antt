@@ -1,27 +1,30 @@
-use Rattle.iot_exchange.proofs.ExchangeLaws.{passed, away, request_lost, reply_lost, comes, none_comes, reached}
+use Rattle.iot_machine.proofs.PairLaws.{both_reached}
+use Rattle.iot_exchange.specs.Words.{is_up}
+use Rattle.iot_exchange.proofs.ExchangeLaws.{away, comes, got, none_comes, reply_lost, request_lost}
 use Rattle.iot_exchange.proofs.FollowingLaws.{grows}
 use Rattle.iot_exchange.proofs.exchange.exchange.Goals as goal
 
 pub returns-in-Away-clause-replied : goal.returns-in-Away-clause-replied
 returns-in-Away-clause-replied g c = record {
   is = λ scripts names at query asks.
-      record { is = away (passed c.is_up-up.ensures c.pass.ensures.passage c.pass.ensures.after c.in-Away.is) };
+      record { is = away c.args.server.now c.is_up-up.ensures c.pass.ensures.passage c.pass.ensures.after c.in-Away.is };
 }
 
 pub returns-in-RequestLost-clause-replied : goal.returns-in-RequestLost-clause-replied
 returns-in-RequestLost-clause-replied g c = record {
   is = λ scripts names at query asks.
-      request_lost (passed c.is_up-up.ensures c.pass.ensures.passage c.pass.ensures.after c.in-RequestLost.is);
+      request_lost c.args.server.now c.is_up-up.ensures c.pass.ensures.passage c.pass.ensures.after c.in-RequestLost.is;
 }
 
 pub serve-requires-in-Both-clause-up : goal.serve-requires-in-Both-clause-up
 serve-requires-in-Both-clause-up g c =
-    reached (passed c.is_up-up.ensures c.pass.ensures.passage c.pass.ensures.after c.in-Both.is)
+    both_reached c.args.laptop.now.link (is_up c.args.server.now)
+    (got c.args.server.now c.is_up-up.ensures c.pass.ensures.passage c.pass.ensures.after c.in-Both.is)
 
 pub returns-in_ok-_lost-in-ReplyLost-clause-replied : goal.returns-in_ok-_lost-in-ReplyLost-clause-replied
 returns-in_ok-_lost-in-ReplyLost-clause-replied g c = record {
   is = λ scripts names at query asks.
-      reply_lost (grows query) _ (passed c.is_up-up.ensures c.pass.ensures.passage c.pass.ensures.after c.in-ReplyLost.is)
+      reply_lost c.args.server.now c.is_up-up.ensures c.pass.ensures.passage c.pass.ensures.after (grows query) _ c.in-ReplyLost.is
       (c.in_ok-_lost-in-ReplyLost.ensures.asks names query asks);
 }
 
@@ -30,7 +33,7 @@ returns-in-Some-clause-replied g c = record {
   ready = c.requires.ready;
   asked = record {
     is = λ scripts names at query asks.
-        comes (grows query) (passed c.is_up-up.ensures c.pass.ensures.passage c.pass.ensures.after c.in-Both.is)
+        comes c.args.server.now c.is_up-up.ensures c.pass.ensures.passage c.pass.ensures.after (grows query) c.in-Both.is
         (rw c.in-Some.is at (c.in_ok-reply-in-Both.ensures.asks names query asks));
   };
   same = c.pass.ensures.both c.in-Both.is;
@@ -41,6 +44,6 @@ returns-in-Some-clause-replied g c = record {
 pub returns-in-None-clause-replied : goal.returns-in-None-clause-replied
 returns-in-None-clause-replied g c = record {
   is = λ scripts names at query asks.
-      none_comes (grows query) (passed c.is_up-up.ensures c.pass.ensures.passage c.pass.ensures.after c.in-Both.is)
+      none_comes c.args.server.now c.is_up-up.ensures c.pass.ensures.passage c.pass.ensures.after (grows query) c.in-Both.is
       (rw c.in-None.is at (c.in_ok-reply-in-Both.ensures.asks names query asks)) c.broke.ensures.after;
 }

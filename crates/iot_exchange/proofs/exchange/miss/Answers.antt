@@ -1,8 +1,8 @@
-use Rattle.iot_exchange.proofs.ExchangeLaws.{passed, away}
+use Rattle.iot_exchange.proofs.ExchangeLaws.{away}
 use Rattle.iot_exchange.proofs.exchange.miss.Goals as goal
 
 pub returns-clause-all : goal.returns-clause-all
 returns-clause-all g c = λ scripts names at. record {
-  none = λ query x. away (passed c.is_up.ensures c.pass.ensures.passage c.pass.ensures.after
-      (rw c.requires.down at c.pass.ensures.passage));
+  none = λ query x. away c.args.server.now c.is_up.ensures c.pass.ensures.passage c.pass.ensures.after
+      (rw c.requires.down at c.pass.ensures.passage);
 }

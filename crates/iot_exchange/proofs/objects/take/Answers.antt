@@ -15,21 +15,18 @@ returns-then-waits g c scripts =
 
 pub returns-in_err-bring : goal.returns-in_err-bring
 returns-in_err-bring g c scripts =
-    asks_then (runs_here (sym c.runs.ensures ∙ c.if-runs.false))
-    (asks_then (pends_here (sym c.waits.ensures ∙ c.if-waits.false))
+    asks_then (runs_here (sym c.runs.ensures ∙ c.if-runs.false)) (asks_then (pends_here (sym c.waits.ensures ∙ c.if-waits.false))
     (hands_on c.in_err-bring.was c.from_residual-in_err-bring.ensures.1 (c.bring.ensures.does scripts)))
 
 pub returns-then-not-branch : goal.returns-then-not-branch
 returns-then-not-branch g c scripts =
-    asks_then (runs_here (sym c.runs.ensures ∙ c.if-runs.false))
-    (asks_then (pends_here (sym c.waits.ensures ∙ c.if-waits.false))
+    asks_then (runs_here (sym c.runs.ensures ∙ c.if-runs.false)) (asks_then (pends_here (sym c.waits.ensures ∙ c.if-waits.false))
     (goes_then {next = took} (c.in_ok-bring.was ∙ ap (λ (b : Bool). Ok b) c.if-not-branch.true) (c.bring.ensures.does scripts)
     (refuses (c.bring.ensures.does scripts).disks c.in_ok-say-3.ensures)))
 
 pub returns : goal.returns
 returns g c scripts =
-    asks_then (runs_here (sym c.runs.ensures ∙ c.if-runs.false))
-    (asks_then (pends_here (sym c.waits.ensures ∙ c.if-waits.false))
+    asks_then (runs_here (sym c.runs.ensures ∙ c.if-runs.false)) (asks_then (pends_here (sym c.waits.ensures ∙ c.if-waits.false))
     (goes_then {next = took} (c.in_ok-bring.was ∙ ap (λ (b : Bool). Ok b) c.if-not-branch.false) (c.bring.ensures.does scripts)
     (answers (c.bring.ensures.does scripts).disks)))
 

@@ -7,8 +7,7 @@ pub returns-in_err-take : goal.returns-in_err-take
 returns-in_err-take g c scripts = hands_on c.in_err-take.was c.from_residual.ensures.1 (c.take.ensures scripts)
 
 pub returns : goal.returns
-returns g c scripts = then_tells c.in_ok-take.was (c.take.ensures scripts) (λ names at pair here.
-    c.in_ok-say_walk.ensures
+returns g c scripts = then_tells c.in_ok-take.was (c.take.ensures scripts) (λ names at pair here. c.in_ok-say_walk.ensures
     ∙ (λ i. c.take.new.out ++ walk_line ((c.name.ensures ∙ here.client.is.name) i) ((c.held.ensures ∙ here.client.is.state.held) i)))
 
 pub returns-in_err-say_walk : goal.returns-in_err-say_walk

@@ -20,8 +20,7 @@ unreachable-requires g c =
     let came = rw c.in-Some.is at c.in_ok-reply.ensures.replied in
     none_found c.args.scripts.now c.plan-plan.result.script c.find.result
     (find_from_yields_List (λ w. bytes_eq c.plan-plan.result.script w.name) _ _ _ c.find.ensures.ran
-    (YieldsList-from_slice c.args.scripts.now c.iter.ensures.rest) (λ x b q k. search (rules, tests)))
-    c.in_default.is
+    (YieldsList-from_slice c.args.scripts.now c.iter.ensures.rest) (λ x b q k. search (rules, tests))) c.in_default.is
     (declared_for c.args.request c.requires.first c.plan-plan.result (rw came.same at c.plan-plan.ensures) c.requires.ready)
 
 pub resolve-requires : goal.resolve-requires
@@ -33,7 +32,7 @@ resolve-requires g c =
       conflict = rw came.same (head_is IsInConflict c.requires.first c.requires.first.is.conflict);
       brings = rw c.deref.ensures.value whole.0;
       whole = rw c.deref.ensures.value whole.1;
-      script = rw c.in_ok-code-in-Some.ensures.value c.in_ok-code-in-Some.ensures.script;
+      script = rw c.in_ok-shared-in-Some.ensures.value c.in_ok-shared-in-Some.ensures.script;
     }
 
 pub returns-in_err-resolve-in-Some : goal.returns-in_err-resolve-in-Some
@@ -43,7 +42,7 @@ returns-in_err-resolve-in-Some g c =
     (code_found c.args.scripts.now c.plan-plan.result.script c.find.result
     (find_from_yields_List (λ w. bytes_eq c.plan-plan.result.script w.name) _ _ _ c.find.ensures.ran
     (YieldsList-from_slice c.args.scripts.now c.iter.ensures.rest) (λ x b q k. search (rules, tests)))
-    c.in-Some-find.is c.in_ok-code-in-Some.ensures.value) came c.in_ok-reply.ensures.disks
+    c.in-Some-find.is c.in_ok-shared-in-Some.ensures.value) came c.in_ok-reply.ensures.disks
     (rw c.deref.ensures.value at c.resolve.ensures.does) c.resolve.ensures.place c.resolve.ensures.trails c.resolve.ensures.disk
     (λ p u. hands_on c.in_err-resolve-in-Some.was
     (synced_err c.in_err-resolve-in-Some.field-0.0 _ c.from_residual-in_err-resolve-in-Some.ensures.1))
@@ -55,7 +54,7 @@ returns-in-Some g c =
     (code_found c.args.scripts.now c.plan-plan.result.script c.find.result
     (find_from_yields_List (λ w. bytes_eq c.plan-plan.result.script w.name) _ _ _ c.find.ensures.ran
     (YieldsList-from_slice c.args.scripts.now c.iter.ensures.rest) (λ x b q k. search (rules, tests)))
-    c.in-Some-find.is c.in_ok-code-in-Some.ensures.value) came c.in_ok-reply.ensures.disks
+    c.in-Some-find.is c.in_ok-shared-in-Some.ensures.value) came c.in_ok-reply.ensures.disks
     (rw c.deref.ensures.value at c.resolve.ensures.does) c.resolve.ensures.place c.resolve.ensures.trails c.resolve.ensures.disk
     (λ p u did. then_tells c.in_ok-resolve-in-Some.was did (λ names at pair here. c.in_ok-say_resolve-in-Some.ensures))
 

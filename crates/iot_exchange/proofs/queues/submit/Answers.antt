@@ -22,8 +22,7 @@ pub returns-in_err-told-in-Some : goal.returns-in_err-told-in-Some
 returns-in_err-told-in-Some g c scripts =
     submits_told c.args.submitted c.requires.first (rw c.in-Some.is at c.in_ok-reply.ensures.replied) c.in_ok-reply.ensures.disks
     (rw (c.in_ok-reply.ensures.state, c.deref.ensures.value) at c.take_verdict.ensures.does) c.take_verdict.ensures.place
-    c.take_verdict.ensures.trails c.take_verdict.ensures.disk (λ verdict option spells has.
-    hands_on (ap done c.in_err-told-in-Some.was)
+    c.take_verdict.ensures.trails c.take_verdict.ensures.disk (λ verdict option spells has. hands_on (ap done c.in_err-told-in-Some.was)
     (synced_err c.in_err-told-in-Some.field-0.0 _ c.from_residual-in_err-told-in-Some.ensures.1))
 
 pub returns-in-Some : goal.returns-in-Some

@@ -4,8 +4,7 @@ use Rattle.iot_exchange.proofs.queues.sync.Goals as goal
 
 pub returns-in_default : goal.returns-in_default
 returns-in_default g c =
-    syncs_none (none_waits c.args.laptop.now _ (sym c.head.ensures ∙ c.in_default.is)) c.requires.ready.keeps
-    c.in_ok-say.ensures
+    syncs_none (none_waits c.args.laptop.now _ (sym c.head.ensures ∙ c.in_default.is)) c.requires.ready.keeps c.in_ok-say.ensures
 
 pub need-requires-clause-waits : goal.need-requires-clause-waits
 need-requires-clause-waits g c = some_waits c.args.laptop.now _ (sym c.head.ensures ∙ c.in-Some.is)
@@ -19,8 +18,7 @@ resolve-requires-clause-first g c = first_of (sym c.head.ensures ∙ c.in-Some.i
 
 pub returns-in_ok-say_of-in-Ok : goal.returns-in_ok-say_of-in-Ok
 returns-in_ok-say_of-in-Ok g c =
-    syncs_by_hand
-    (first_of (sym c.head.ensures ∙ c.in-Some.is) (decided c.args.laptop.now _ (sym c.decision.ensures ∙ c.in-Ok.is)).1)
+    syncs_by_hand (first_of (sym c.head.ensures ∙ c.in-Some.is) (decided c.args.laptop.now _ (sym c.decision.ensures ∙ c.in-Ok.is)).1)
     c.requires.ready.keeps c.in_ok-say_of-in-Ok.ensures
 
 pub returns-in_ok-say-in-Err : goal.returns-in_ok-say-in-Err

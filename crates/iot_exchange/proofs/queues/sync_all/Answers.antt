@@ -11,23 +11,22 @@ returns-then-not-waits g c = all_by c.in_ok-most.ensures (last_round c.syncs.inv
     (asks_then {next = sync_if} (pends_here (sym c.waits.ensures ∙ c.if-not-waits.true))
     (answers c.syncs.invariant.1.ready.keeps)) refl refl)
 
-pub returns-in_err-synced : goal.returns-in_err-synced
-returns-in_err-synced g c = all_by c.in_ok-most.ensures (halted_round c.syncs.invariant.0 c.syncs-test.true
+pub returns-in_err-sync : goal.returns-in_err-sync
+returns-in_err-sync g c = all_by c.in_ok-most.ensures (halted_round c.syncs.invariant.0 c.syncs-test.true
     (asks_then {next = sync_if} (pends_here (sym c.waits.ensures ∙ c.if-not-waits.false))
-    (hands_on {outer = Err c.in_err-synced.field-0.0} (ap synced_by c.in_err-synced.was) refl c.sync.ensures))
-    refl c.from_residual-in_err-synced.ensures.1)
+    (hands_on {outer = Err c.in_err-sync.field-0.0} (ap synced_by c.in_err-sync.was) refl c.sync.ensures))
+    refl c.from_residual-in_err-sync.ensures.1)
 
 pub returns-then-not-moves : goal.returns-then-not-moves
 returns-then-not-moves g c = all_by c.in_ok-most.ensures (last_round c.syncs.invariant.0 c.syncs-test.true
     (asks_then {next = sync_if} (pends_here (sym c.waits.ensures ∙ c.if-not-waits.false))
-    (then_answers {f = moves} (ap synced_by c.in_ok-synced.was) c.moves.ensures c.sync.ensures)) refl c.if-not-moves.true)
+    (then_answers {f = moves} (ap synced_by c.in_ok-sync.was) c.moves.ensures c.sync.ensures)) refl c.if-not-moves.true)
 
 pub syncs-preserved : goal.syncs-preserved
 syncs-preserved g c = (
-  one_more c.syncs.invariant.0 c.syncs-test.true
-      (asks_then {next = sync_if} (pends_here (sym c.waits.ensures ∙ c.if-not-waits.false))
-      (then_answers {f = moves} (ap synced_by c.in_ok-synced.was) c.moves.ensures c.sync.ensures)) refl c.if-not-moves.false,
-  ready_after (ap synced_by c.in_ok-synced.was) c.sync.ensures c.syncs.invariant.1.stands,
+  one_more c.syncs.invariant.0 c.syncs-test.true (asks_then {next = sync_if} (pends_here (sym c.waits.ensures ∙ c.if-not-waits.false))
+      (then_answers {f = moves} (ap synced_by c.in_ok-sync.was) c.moves.ensures c.sync.ensures)) refl c.if-not-moves.false,
+  ready_after (ap synced_by c.in_ok-sync.was) c.sync.ensures c.syncs.invariant.1.stands,
 )
 
 pub returns : goal.returns

@@ -8,5 +8,4 @@ use Rattle.iot_exchange.proofs.queues.sync_all.Given as goal
 abbrev pub invariant-syncs : goal.invariant-syncs
 invariant-syncs g l =
     SoFar g.D.Disk.medium (scripts_of l.scripts) l.most SyncsNext (two l.initial.laptop l.initial.server) l.initial.out l.counter
-    (two l.laptop l.server) l.out
-    × IsReadyWith g.D.Disk.medium (scripts_of l.scripts) (two l.laptop l.server)
+    (two l.laptop l.server) l.out × IsReadyWith g.D.Disk.medium (scripts_of l.scripts) (two l.laptop l.server)

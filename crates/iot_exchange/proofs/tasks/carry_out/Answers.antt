@@ -26,25 +26,22 @@ run-requires-clause-meant g c =
 pub returns-in-Run : goal.returns-in-Run
 returns-in-Run g c =
     let may = rw c.in-Run.is at c.requires.may in
-    rw (c.in-Run.is, ← script_there c.args.scripts.now may.0 c.index-scripts-script.is)
-    (c.run.ensures _
+    rw (c.in-Run.is, ← script_there c.args.scripts.now may.0 c.index-scripts-script.is) (c.run.ensures _
     (meant_there c.args.scripts.now c.in-Run.option may.0 c.index-scripts-script.is may.1 c.requires.apart c.by_name-chosen.ensures).means)
 
 pub begin_aloud-requires : goal.begin_aloud-requires
 begin_aloud-requires g c =
-    let may = rw c.in-Begin.is at c.requires.may in
-    record {
-      scripts = scripts_of c.args.scripts.now;
-      ready = c.requires.ready;
-      meant = meant_there c.args.scripts.now c.in-Begin.option may.0 c.index-scripts-script-in-Begin.is may.1 c.requires.apart
-          c.by_name-chosen-in-Begin.ensures;
-    }
+    let may = rw c.in-Begin.is at c.requires.may in (
+      scripts_of c.args.scripts.now,
+      c.requires.ready,
+      meant_there c.args.scripts.now c.in-Begin.option may.0 c.index-scripts-script-in-Begin.is may.1 c.requires.apart
+          c.by_name-chosen-in-Begin.ensures,
+    )
 
 pub returns-in-Begin : goal.returns-in-Begin
 returns-in-Begin g c =
     let may = rw c.in-Begin.is at c.requires.may in
-    rw (c.in-Begin.is, ← script_there c.args.scripts.now may.0 c.index-scripts-script-in-Begin.is)
-    (c.begin_aloud.ensures _ _
+    rw (c.in-Begin.is, ← script_there c.args.scripts.now may.0 c.index-scripts-script-in-Begin.is) (c.begin_aloud.ensures _ _
     (meant_there c.args.scripts.now c.in-Begin.option may.0 c.index-scripts-script-in-Begin.is may.1 c.requires.apart
     c.by_name-chosen-in-Begin.ensures).means)
 

@@ -15,7 +15,7 @@ pub returns-in-Ok-clause-step : goal.returns-in-Ok-clause-step
 returns-in-Ok-clause-step g c names at =
     all_done names at (sym c.is_alive.ensures ∙ c.if-not-is_alive.false) c.carry_out.ensures c.in-Ok.is
 
-pub returns-in-Over-clause-step : goal.returns-in-Over-clause-step
-returns-in-Over-clause-step g c names at =
+pub returns-in-Err-Over-clause-step : goal.returns-in-Err-Over-clause-step
+returns-in-Err-Over-clause-step g c names at =
     all_over names at (sym c.is_alive.ensures ∙ c.if-not-is_alive.false) c.carry_out.ensures
-    (c.in-Err.is ∙ ap (λ (halt : Halt). Err halt) c.in-Over.is)
+    (c.in-Err-Over.is ∙ ap (λ (halt : Halt). Err halt) c.in-Err-Over.field-0-is)

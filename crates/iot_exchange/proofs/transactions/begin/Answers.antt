@@ -9,29 +9,33 @@ pub returns-then-is_full : goal.returns-then-is_full
 returns-then-is_full g c scripts on_conflict means =
     asks_then (full_here (sym c.is_full.ensures ∙ c.if-is_full.true)) (refuses c.requires.keeps c.in_ok-say.ensures)
 
+pub begin-requires-clause-script : goal.begin-requires-clause-script
+begin-requires-clause-script g c = rw c.in_ok-code.ensures.value c.in_ok-code.ensures.script
+
 pub returns-then-waits : goal.returns-then-waits
 returns-then-waits g c scripts on_conflict means =
-    asks_then (full_here (sym c.is_full.ensures ∙ c.if-is_full.false))
-    (asks_then (pends_here (sym c.waits.ensures ∙ c.if-waits.true))
-    (by_client (starts (script_of c.args.script.now) on_conflict false) c.requires.keeps c.start.ensures.place
-    (unless_done (KeepsTrails c.args.laptop.now c.start.new.laptop) c.start.result c.start.ensures.trails)
-    (c.start.ensures.does scripts on_conflict means.script_is means.resolver means.option_is) c.start.ensures.disk))
+    let did = rw c.in_ok-code.ensures.value at c.begin.ensures.does in
+    asks_then (full_here (sym c.is_full.ensures ∙ c.if-is_full.false)) (asks_then (pends_here (sym c.waits.ensures ∙ c.if-waits.true))
+    (by_client (starts (script_of c.args.script.now) on_conflict false) c.requires.keeps c.begin.ensures.place
+    (unless_done (KeepsTrails c.args.laptop.now c.begin.new.self) c.begin.result c.begin.ensures.trails)
+    (did scripts on_conflict means.script_is means.resolver means.option_is) c.begin.ensures.disk))
 
 pub returns-in_err-first : goal.returns-in_err-first
 returns-in_err-first g c scripts on_conflict means =
-    asks_then (full_here (sym c.is_full.ensures ∙ c.if-is_full.false))
-    (asks_then (pends_here (sym c.waits.ensures ∙ c.if-waits.false))
+    asks_then (full_here (sym c.is_full.ensures ∙ c.if-is_full.false)) (asks_then (pends_here (sym c.waits.ensures ∙ c.if-waits.false))
     (hands_on c.in_err-first.was c.from_residual-in_err-first.ensures.1 (c.bring.ensures.does scripts)))
 
-pub start-requires-2-clause-stands : goal.start-requires-2-clause-stands
-start-requires-2-clause-stands g c = (ready_after c.in_ok-first.was (c.bring.ensures.does _) c.requires.stands).ready.alive
+pub begin-requires-2-clause-stands : goal.begin-requires-2-clause-stands
+begin-requires-2-clause-stands g c = (ready_after c.in_ok-first.was (c.bring.ensures.does _) c.requires.stands).ready.alive
+
+pub begin-requires-2-clause-script : goal.begin-requires-2-clause-script
+begin-requires-2-clause-script g c = rw c.in_ok-code.ensures.value c.in_ok-code.ensures.script
 
 pub returns : goal.returns
 returns g c scripts on_conflict means =
-    asks_then (full_here (sym c.is_full.ensures ∙ c.if-is_full.false))
-    (asks_then (pends_here (sym c.waits.ensures ∙ c.if-waits.false))
+    let did = rw c.in_ok-code.ensures.value at c.begin-2.ensures.does in
+    asks_then (full_here (sym c.is_full.ensures ∙ c.if-is_full.false)) (asks_then (pends_here (sym c.waits.ensures ∙ c.if-waits.false))
     (goes_then c.in_ok-first.was (c.bring.ensures.does scripts)
     (by_client (starts (script_of c.args.script.now) on_conflict c.in_ok-first.first) (c.bring.ensures.does scripts).disks
-    c.start-2.ensures.place (unless_done (KeepsTrails c.bring.new.laptop c.start-2.new.laptop) c.start-2.result c.start-2.ensures.trails)
-    (c.start-2.ensures.does scripts on_conflict means.script_is means.resolver means.option_is)
-    c.start-2.ensures.disk)))
+    c.begin-2.ensures.place (unless_done (KeepsTrails c.bring.new.laptop c.begin-2.new.self) c.begin-2.result c.begin-2.ensures.trails)
+    (did scripts on_conflict means.script_is means.resolver means.option_is) c.begin-2.ensures.disk)))

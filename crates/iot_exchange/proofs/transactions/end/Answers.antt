@@ -1,9 +1,8 @@
-use Rattle.std.proofs.Common.{Ok, ◌++◌, ap, sym, ◌∙◌}
+use Rattle.std.proofs.Common.{◌++◌, ◌∙◌, Ok, ap, sym}
 use Rattle.iot_laptop.specs.declared.needs.Certified.{Certified}
 use Rattle.iot_exchange.specs.Words.{Asks, KeepsTrails, Then, Transaction, again_line, compared_if, end_by, if_runs, name_of, next_of}
 use Rattle.iot_exchange.proofs.DoesLaws.{asks_then, by_client, certifies_one, hands_on, keeps_more, no_memory, ready_after, refuses}
-use Rattle.iot_exchange.proofs.RunningLaws.{none_meant}
-use Rattle.iot_exchange.proofs.YieldingLaws.{certified_then, end_again, end_joined, not_ended, trails_found}
+use Rattle.iot_exchange.proofs.TransactionsLaws.{certified_then, end_again, end_joined, none_meant, not_ended, trails_found}
 use Rattle.iot_exchange.proofs.transactions.end.Goals as goal
 
 pub returns-in_default : goal.returns-in_default
@@ -29,8 +28,7 @@ join-requires g c =
     ready_after (ap compared_if (c.in_ok-gone.was ∙ ap (λ (it : Certified). Ok it) c.in-Joined.is))
     (by_client (certifies_one c.in-Some.number) c.requires.ready.keeps c.end.ensures.place
     (trails_found (KeepsTrails c.args.laptop.now c.end.new.self) c.end.result c.end.ensures.trails) (c.end.ensures.does _)
-    c.end.ensures.disk)
-    c.requires.stands
+    c.end.ensures.disk) c.requires.stands
 
 pub returns-in-Joined : goal.returns-in-Joined
 returns-in-Joined g c =
@@ -38,8 +36,7 @@ returns-in-Joined g c =
     (ap compared_if (c.in_ok-gone.was ∙ ap (λ (it : Certified). Ok it) c.in-Joined.is)) (rw c.in-Joined.is at c.in_ok-gone.ensures.gone)
     (by_client (certifies_one c.in-Some.number) c.requires.ready.keeps c.end.ensures.place
     (trails_found (KeepsTrails c.args.laptop.now c.end.new.self) c.end.result c.end.ensures.trails) (c.end.ensures.does _)
-    c.end.ensures.disk)
-    c.join.ensures
+    c.end.ensures.disk) c.join.ensures
 
 pub returns-in_ok-say_read-in-Again : goal.returns-in_ok-say_read-in-Again
 returns-in_ok-say_read-in-Again g c =
@@ -47,8 +44,7 @@ returns-in_ok-say_read-in-Again g c =
     (ap compared_if (c.in_ok-gone.was ∙ ap (λ (it : Certified). Ok it) c.in-Again.is))
     (by_client (certifies_one c.in-Some.number) c.requires.ready.keeps c.end.ensures.place
     (trails_found (KeepsTrails c.args.laptop.now c.end.new.self) c.end.result c.end.ensures.trails) (c.end.ensures.does _)
-    c.end.ensures.disk)
-    (c.in_ok-say_read-in-Again.ensures
+    c.end.ensures.disk) (c.in_ok-say_read-in-Again.ensures
     ∙ ap (λ (t : Transaction). c.end.new.out ++ again_line (name_of t) c.in-Again.read c.in-Again.question) c.transaction.ensures)
 
 pub returns-in_err-say_read-in-Again : goal.returns-in_err-say_read-in-Again

@@ -1,10 +1,8 @@
-use Rattle.std.proofs.Common.{◌++◌, refl, sym, ◌∙◌}
+use Rattle.std.proofs.Common.{◌++◌, ◌∙◌, refl, sym}
 use Rattle.iot_exchange.specs.Saying.{place_said}
 use Rattle.iot_exchange.specs.Words.{if_runs, step_line, transaction_name}
 use Rattle.iot_exchange.proofs.DoesLaws.{asks_then, hands_on, no_memory, ready_after, refuses, then_tells}
-use Rattle.iot_exchange.proofs.RunningLaws.{lent_run, none_meant}
-use Rattle.iot_exchange.proofs.TransactionsLaws.{none_said, stepped_said}
-use Rattle.iot_exchange.proofs.YieldingLaws.{aloud, aloud_by}
+use Rattle.iot_exchange.proofs.TransactionsLaws.{aloud, aloud_by, lent_run, none_meant, none_said, stepped_said}
 use Rattle.iot_exchange.proofs.transactions.step_aloud.Goals as goal
 
 pub returns-in_default : goal.returns-in_default
@@ -27,8 +25,7 @@ pub returns-in_ok-say_step-in-Some-run : goal.returns-in_ok-say_step-in-Some-run
 returns-in_ok-say_step-in-Some-run g c scripts =
     aloud_by c.args.which c.args.most (sym c.meant.ensures ∙ c.in-Some.is)
     (then_tells c.in_ok-steps.was (c.steps.ensures scripts) (λ names at pair here.
-    stepped_said here.client.is c.in-Some.number c.steps.new.out c.say_step.new.out _
-    (lent_run c.run.ensures.running c.in-Some-run.is)
+    stepped_said here.client.is c.in-Some.number c.steps.new.out c.say_step.new.out _ (lent_run c.run.ensures.running c.in-Some-run.is)
     (c.in_ok-say_step-in-Some-run.ensures ∙ (λ i. c.steps.new.out
     ++ step_line (transaction_name (c.transaction-transaction.ensures i).client (c.transaction-transaction.ensures i).number)
     (c.len-acts.ensures i) (place_said (c.at_end.ensures i) (c.len-acts.ensures i))))))
@@ -37,8 +34,7 @@ pub returns-in-None : goal.returns-in-None
 returns-in-None g c scripts =
     aloud_by c.args.which c.args.most (sym c.meant.ensures ∙ c.in-Some.is)
     (then_tells c.in_ok-steps.was (c.steps.ensures scripts) (λ names at pair here.
-    none_said here.client.is c.in-Some.number c.steps.new.out c.steps.new.out _
-    (lent_run c.run.ensures.running c.in-None.is) refl))
+    none_said here.client.is c.in-Some.number c.steps.new.out c.steps.new.out _ (lent_run c.run.ensures.running c.in-None.is) refl))
 
 pub returns-in_err-say_step-in-Some-run : goal.returns-in_err-say_step-in-Some-run
 returns-in_err-say_step-in-Some-run g c scripts = no_memory c.from_residual-in_err-say_step-in-Some-run.ensures.1
