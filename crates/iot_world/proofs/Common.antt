@@ -12,8 +12,8 @@ pub use Rattle.iot_server_node.proofs.BeginningLaws.{commits_kept, commits_same,
 pub use Rattle.iot_server_node.proofs.ServersLaws.{has_disk, lasts, more_names, up_is}
 pub use Rattle.iot_store.specs.Store.{state_of}
 pub use Rattle.iot_world.specs.Disks.{AreFresh, IsUnarmed}
-pub use Rattle.iot_world.specs.Holding.{DisksHold, Holds, HoldsList, IsKept, IsListed, KeepsClient, running_kept, state_kept}
+pub use Rattle.iot_world.specs.Holding.{DisksHold, Holds, IsKept, IsListed, KeepsClient, running_kept, state_kept}
 pub use Rattle.iot_world.specs.World.{AreLast, ArePlaced, AreUnarmed, ClientIs, DeclaredOn, DeclaresClient, Each, EventSteps}
 pub use Rattle.iot_world.specs.World.{GivesBack, IsReady, IsWorldOfSome, KeepsDisks, KeepsNode, LaptopHasDisk, LendsClient, LendsServer}
-pub use Rattle.iot_world.specs.World.{MakesStep, Opens, SameArms, StandsFor, StandsForSome, Starts, UnlessArmed, client_count, disks_of}
-pub use Rattle.iot_world.specs.World.{said_of, script_names, scripts_of, with_clients, with_first}
+pub use Rattle.iot_world.specs.World.{MakesStep, Opens, SameArms, StandsFor, Starts, UnlessArmed, client_count, disks_of}
+pub use Rattle.iot_world.specs.World.{script_names, scripts_of, with_clients, with_first}

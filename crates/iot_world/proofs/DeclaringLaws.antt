@@ -4,22 +4,23 @@ use Rattle.iot_event.specs.declared.event.Event.TheVariants as events
 use Rattle.iot_exchange.proofs.FollowingLaws.{follows_nothing}
 use Rattle.iot_exchange.specs.Scripts as exchange
 use Rattle.iot_judging.proofs.FollowingLaws.{follows_kept}
-use Rattle.iot_judging.specs.Lists.{Follows}
+use Rattle.iot_machine.specs.Machine.{Commit}
 use Rattle.iot_laptop.specs.Laptops.{FallenStands, fallen, unopened_laptop, awake}
 use Rattle.iot_machine.specs.Machine as machine
 use Rattle.iot_machine.specs.Nodes.{no_counts}
 use Rattle.iot_standing.proofs.ScriptsLaws.{named_more, state_more, if_more}
 use Rattle.iot_world.proofs.BeginsLaws.{begins_there}
 use Rattle.iot_world.proofs.Common.{MakesStep, DeclaresClient, Starts, LaptopHasDisk, client_count}
-use Rattle.iot_world.proofs.Common.{false, ◌++◌, drop, append_assoc, get_or-append_seam, set-append_seam, append-nil, length-append}
+use Rattle.iot_world.proofs.Common.{false, ◌++◌, drop, get_or-append_seam, set-append_seam, append-nil, length-append}
 use Rattle.iot_world.proofs.Common.{map-append, sound_opening, AreFresh, ArePlaced, AreUnarmed, GivesBack, Opens, with_clients, StandsFor}
-use Rattle.iot_world.proofs.Common.{script_names, said_of, more_names, all_push, Each, StandsForSome, ◌≤◌, length-map}
-use Rattle.iot_world.proofs.Common.{slice_index_or, take, None, cond, ◌||◌, bytes_eq, rules}
+use Rattle.iot_world.proofs.Common.{script_names, more_names, all_push, Each, IsWorldOfSome, ◌≤◌, length-map}
+use Rattle.iot_world.proofs.Common.{slice_index_or, take, None, bytes_eq, rules}
 use Rattle.iot_world.proofs.Common.{◌≡◌, ℕ, Bool, List, [], ◌∷◌, length, map, Some, refl, sym, ap, subst, ◌∙◌, arith, suc, ◌+◌, true}
 use Rattle.iot_world.proofs.DisksLaws.{arms_with, clients_same, first_kept, unarmed_same, pushed_with, server_same}
 use Rattle.iot_world.proofs.ListLaws.{all_split, each_push, each_place_push, each_map}
-use Rattle.iot_world.proofs.PlacesLaws.{ServerFollows, ends_length, has_places, kept_server, places_list, server_list, server_placed}
-use Rattle.iot_world.proofs.WorldsLaws.{then_silent, opens_keeps, gets_then}
+use Rattle.iot_world.proofs.PlacesLaws.{ServerFollows, ends_length, has_places, kept_server, placed_beside, places_list, server_list}
+use Rattle.iot_world.proofs.PlacesLaws.{server_placed}
+use Rattle.iot_world.proofs.WorldsLaws.{Any, at_part, opens_keeps}
 use Rattle.iot_world.specs.Disks.{HasEnds, ServerBegins, with_ends}
 use Rattle.iot_world.specs.Prelude.{AreApart, script_of}
 use Rattle.iot_world.specs.Prelude.{Declares, names_in, client_of, add_client, event_part, client_line, ClientStands}
@@ -27,10 +28,12 @@ use Rattle.iot_world.specs.Prelude.{KeepsTrails, stamps_in, Vec, is_some, Result
 use Rattle.iot_world.specs.Prelude.{Machine, handed, first_of, client_in, client_at, no_client, Counts, unopened, server_name, OpensNode}
 use Rattle.iot_world.specs.Prelude.{Opening, KeepsDisk, counts_on, IsEmpty, StepsTo, disk_of, ServerStands, HavingAnswered, KeepsCommits}
 use Rattle.iot_world.specs.Prelude.{ServerNode, Laptop, DeclaredScript, World, AllByRecursion, Code, is_declared, Says, goes_on, Declared}
+use Rattle.iot_world.specs.Prelude.{Refines}
 use Rattle.iot_world.specs.Prelude.{disk_in, script_named, Global, IsBeside, KeepsBeside, last_of, on_both, paired, placed, IsNamed}
-use Rattle.iot_world.specs.World.{AllFollow, LeavesDisks, with_server}
-use Rattle.iot_machine.proofs.StepsLaws.{does}
+use Rattle.iot_world.specs.World.{LeavesDisks, SaysStarted, StandsIn, with_server}
+use Rattle.iot_machine.proofs.StepsLaws.{at_each, at_one, does, nothing, quiet, says_this, joined as one_then}
 use Rattle.std.proofs.Math.Seq.{take-append_seam}
+use Rattle.std.proofs.lemmas.Bool.{or_parts}
 use Rattle.std.proofs.lemmas.List.Folds.{find-append}
 use Rattle.std.proofs.lemmas.Slice.Eq.{bytes_eq-Decides}
 
@@ -46,9 +49,10 @@ module _ {D : Type 0} (medium : Medium D) (scripts : List Declared) (one : Decla
       fallen (search rules)
 
   -- each client's transactions still have their scripts
-  clients_more : (laptops : List (Laptop D)) (ms : List machine.Client) → Each (ClientStands medium scripts) laptops ms
-      → Each (ClientStands medium (scripts ++ one ∷ [])) laptops ms
-  clients_more = each_map (ClientStands medium scripts) (ClientStands medium (scripts ++ one ∷ [])) client_more
+  clients_more : (commits : List Commit) (laptops : List (Laptop D)) (ms : List machine.Client)
+      → Each (StandsIn medium scripts commits) laptops ms → Each (StandsIn medium (scripts ++ one ∷ []) commits) laptops ms
+  clients_more commits = each_map (StandsIn medium scripts commits) (StandsIn medium (scripts ++ one ∷ []) commits)
+      (λ laptop m it. record { client = client_more laptop m it.client; follows = it.follows })
 
 -- ---- scripts with names of their own
 
@@ -62,13 +66,9 @@ apart_more scripts one apart none =
 undeclared : (ws : List DeclaredScript) (name : List ℕ) → is_declared name (map (λ w. w.name) ws) ≡ false
     → script_named name (map script_of ws) ≡ None
 undeclared [] name none = refl
-undeclared (w ∷ ws) name none = by (bytes_eq name w.name) none (λ rest. undeclared ws name rest)
-  where
-    by : (b : Bool) → (b || is_declared name (map (λ w. w.name) ws)) ≡ false
-        → (is_declared name (map (λ w. w.name) ws) ≡ false → script_named name (map script_of ws) ≡ None)
-        → cond b (Some (script_of w)) (script_named name (map script_of ws)) ≡ None
-    by true none more = absurd cc
-    by false none more = more none
+undeclared (w ∷ ws) name none =
+    let parts = or_parts (bytes_eq name w.name) (is_declared name (map (λ w. w.name) ws)) none in
+    rw parts.0 (undeclared ws name parts.1)
 
 -- ---- the counts of ten disks
 
@@ -129,8 +129,15 @@ module _ {D : Type 0} (medium : Medium D) (disks : List D) (first last : D) (res
       let s = one.step (unopened [] (paired counts.0 counts.1)) stands in
       let m : Machine = record (at_first counts.0 counts.1 (map (counts_on medium) rest)) { server = s.1 } in
       let step : Opening (handed (map (counts_on medium) disks)) s.0 tt m =
-      subst (λ (start : Machine). Opening start s.0 tt m) (sym handed_are)
-      (then_silent m on (record { inner = s.1; step = s.3; is = refl }) (refl, refl)) in
+      subst (λ (start : Machine). Opening start s.0 tt m) (sym handed_are) (record {
+        mid = m;
+        front = s.0;
+        rest = [];
+        answer = on;
+        first = record { inner = s.1; step = s.3; is = refl };
+        second = (refl, refl);
+        whole = sym (append-nil s.0);
+      }) in
       record {
         machine = m;
         text = s.0;
@@ -141,7 +148,6 @@ module _ {D : Type 0} (medium : Medium D) (disks : List D) (first last : D) (res
             server = s.4;
             beside = beside;
             clients_ = rw clients tt;
-            follow = rw clients tt;
             scripts = ap (λ (ss : List DeclaredScript). exchange.scripts_of ss) (sym scripts);
             apart = λ place script at. absurd cc;
             placed = subst ArePlaced (sym clients) (λ place laptop at. absurd cc);
@@ -167,9 +173,9 @@ module _ {D : Type 0} (medium : Medium D) (disks : List D) (first last : D) (res
   module _ (was now : ServerNode D) (has : disk_of was ≡ Some (placed false first last)) (kept : KeepsBeside medium was now)
       (keeps : KeepsDisk (on_both medium) (disk_of was) (disk_of now)) where
     abbrev pub follows : ServerFollows medium was now
-    follows = kept_server medium was now
-        (record { disks = placed false first last; has = has; placed = record { promoted = false; first = first; last = last; is = refl } })
-        kept keeps
+    follows = kept_server medium was now false (medium.arms last)
+        (record { first = first; last = last; has = has; beside = refl })
+        (kept false (medium.arms last) (placed_beside medium was false first last has)) keeps
 
     abbrev ends : HasEnds disks
     ends = record { first = first; last = last; others = rest; is = split }
@@ -228,7 +234,7 @@ module _ {D : Type 0} (medium : Medium D) (name : List ℕ) (old : World D) (cli
 
   -- its disk is one of the world's still
   pub joined_leaves : {T E : Type 0} (r : Result T E) → disk_in was ≡ Some disk → KeepsDisk medium (disk_in was) (disk_in next)
-      → vec_len rest + 1 ≡ vec_len old.spare → vec_capacity rest ≡ vec_capacity old.spare → StandsForSome medium old
+      → vec_len rest + 1 ≡ vec_len old.spare → vec_capacity rest ≡ vec_capacity old.spare → IsWorldOfSome medium old
       → LeavesDisks medium false 1 false r old joined
   joined_leaves r had keeps len capacity some = record {
     kept = record {
@@ -261,12 +267,11 @@ module _ {D : Type 0} (medium : Medium D) (name : List ℕ) (old : World D) (cli
           let server = subst (λ (names : List (List ℕ)). ServerStands medium names old.server m.server m.requests)
           (sym (map-append (λ (k : machine.Client). k.name) m.clients (k ∷ [])))
           (rw called (more_names medium (names_in m) name old.server m.server m.requests here.server)) in
-          let both : Each (ClientStands medium m.scripts) clients.items (m.clients ++ k ∷ []) =
-          rw push (each_push (ClientStands medium m.scripts) old.clients.items m.clients next k started here.clients_) in
-          let follow : AllFollow clients.items m.server.durable =
-          rw push (all_push (λ l. Follows (stamps_in l) m.server.durable) old.clients.items next
-          (follows_kept (stamps_in was) (stamps_in next) m.server.durable trails
-          (rw empty (follows_nothing m.server.durable))) here.follow) in
+          let follows =
+          follows_kept (stamps_in was) (stamps_in next) m.server.durable trails (rw empty (follows_nothing m.server.durable)) in
+          let clients_ : Each (StandsIn medium m.scripts m.server.durable) clients.items (m.clients ++ k ∷ []) =
+          rw push (each_push (StandsIn medium m.scripts m.server.durable) old.clients.items m.clients next k
+          (record { client = started; follows = follows }) here.clients_) in
           let placed = subst ArePlaced (sym push)
           (each_place_push (λ n (l : Laptop D). l.place ≡ n) old.clients.items next here.placed (stays ∙ knows)) in
           let empty = (subst (AllByRecursion (IsEmpty medium)) spare here.spare).1 in
@@ -276,49 +281,30 @@ module _ {D : Type 0} (medium : Medium D) (name : List ℕ) (old : World D) (cli
 
     -- then it starts, or stops in that
     pub declares : (x y : List ℕ) → Starts medium name was next x y → MakesStep medium (Declares name) old joined x y tt
-    declares x y starts = record {
-      step = λ m here.
-          let c : ℕ = length m.clients in
-          let m' : Machine = add_client name m in
-          let is : client_in m' c ≡ client_of name m = get_or-append_seam m.clients (client_of name m) [] no_client in
-          let called = ap (λ (k : machine.Client). k.name) is in
-          let there : ClientStands medium m.scripts was (client_in m' c) =
-          subst (ClientStands medium m.scripts was)
-          (ap (λ (cs : List Counts). unopened_laptop name (first_of cs)) (counts_are m here) ∙ sym is)
-          (fallen (unopened m.scripts)) in
-          let s = (starts.opens m.scripts).step (client_in m' c) there in
-          let said : List ℕ = said_of starts.on name in
-          let n : Machine = (client_at c).set s.1 m' in (
-            s.0 ++ said,
-            n,
-            starts.says ∙ ap (λ (t : List ℕ). t ++ said) s.2 ∙ append_assoc x s.0 said,
-            gets_then (record {
-              mid = n;
-              front = s.0;
-              rest = said;
-              answer = starts.on;
-              first = record {
-                inner = s.1;
-                step = record {
-                  inner = s.3.inner;
-                  step = subst (λ (k : List ℕ). OpensNode k (client_in m' c).node s.0 starts.on s.3.inner) called s.3.step;
-                  is = s.3.is;
-                };
-                is = refl;
-              };
-              second = then_says starts.on n;
-              whole = refl;
-            }),
-            subst (λ (ks : List machine.Client). StandsFor medium joined (record m' { clients = ks }))
-                (sym (set-append_seam m.clients (client_of name m) [] s.1))
-                (stands m here s.1 s.4
-                ((opens_keeps name).at (client_in m' c) s.1 s.0 starts.on called s.3) starts.trails),
-          );
-    }
+    declares x y starts = at_each (λ m here.
+        let c : ℕ = length m.clients in
+        let m' : Machine = add_client name m in
+        let is : client_in m' c ≡ client_of name m = get_or-append_seam m.clients (client_of name m) [] no_client in
+        let called = ap (λ (k : machine.Client). k.name) is in
+        let there : ClientStands medium m.scripts was (client_in m' c) =
+        subst (ClientStands medium m.scripts was)
+        (ap (λ (cs : List Counts). unopened_laptop name (first_of cs)) (counts_are m here) ∙ sym is)
+        (fallen (unopened m.scripts)) in
+        let s = (starts.opens m.scripts).step (client_in m' c) there in
+        let now : StandsFor medium joined ((client_at c).set s.1 m') =
+        subst (λ (ks : List machine.Client). StandsFor medium joined (record m' { clients = ks }))
+        (sym (set-append_seam m.clients (client_of name m) [] s.1))
+        (stands m here s.1 s.4 ((opens_keeps name).at (client_in m' c) s.1 s.0 starts.on called s.3) starts.trails) in
+        let opens = subst (λ (k : List ℕ). OpensNode k (client_in m' c).node s.0 starts.on s.3.inner) called s.3.step in
+        one_then (quiet {P = Any} {v = old} m' (refl, refl, refl) tt)
+        (one_then (at_part {Q = StandsFor medium} {w = joined} (client_at c) s.0 s.1 s.2
+        (record { inner = s.3.inner; step = opens; is = s.3.is }) now)
+        (at_one (then_says starts.on starts.says) now)))
       where
-        then_says : (on : Bool) (n : Machine) → goes_on (Says (λ _. client_line name)) on n (said_of on name) tt n
-        then_says true n = (refl, refl)
-        then_says false n = (refl, refl)
+        then_says : (on : Bool) → SaysStarted on name starts.between y
+            → Refines (StandsFor medium) (goes_on (Says (λ _. client_line name)) on) joined joined starts.between y tt
+        then_says true is = says_this is
+        then_says false is = rw is nothing
 
 module _ {D : Type 0} (medium : Medium D) where
   -- ---- a script
@@ -327,7 +313,7 @@ module _ {D : Type 0} (medium : Medium D) where
       → is_declared name (script_names old) ≡ false → scripts.items ≡ old.scripts.items ++ record { name = name; script = code } ∷ []
       → MakesStep medium (event_part (events.Script name code)) old (record old { scripts = scripts }) x x tt
   declares_script name code old scripts x none adds = does (λ m here.
-      let both = clients_more medium m.scripts one old.clients.items m.clients here.clients_ in
+      let both = clients_more medium m.scripts one m.server.durable old.clients.items m.clients here.clients_ in
       let all : m.scripts ++ one ∷ [] ≡ exchange.scripts_of scripts.items =
       ap (λ (ss : List Declared). ss ++ one ∷ []) here.scripts
       ∙ sym (map-append exchange.script_of old.scripts.items (record { name = name; script = code } ∷ []))

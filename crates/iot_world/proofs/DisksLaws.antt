@@ -4,10 +4,11 @@ use Rattle.iot_world.proofs.Common.{◌≡◌, ℕ, zero, suc, ◌+◌, ◌<◌,
 use Rattle.iot_world.proofs.Common.{inl, refl}
 use Rattle.iot_world.proofs.Common.{sym, ap, ◌∙◌, arith, append_assoc, slice_get, slice_index_or, subst, length-append, length-set}
 use Rattle.iot_world.proofs.Common.{with_first, with_clients, LaptopHasDisk, AreLast, UnlessArmed, KeepsNode, Each, KeepsDisks}
-use Rattle.iot_world.proofs.Common.{SameArms, IsUnarmed, StandsForSome, all_set, false, ◌≤◌, MakesStep, disks_of, OnOk, commits_same}
+use Rattle.iot_world.proofs.Common.{SameArms, IsUnarmed, IsWorldOfSome, all_set, false, ◌≤◌, MakesStep, disks_of, OnOk, commits_same}
 use Rattle.iot_world.specs.Prelude.{AllByRecursion, is_some, Result, Ok, Err, IfErr, Vec, Global, Medium, KeepsDisk, disk_in}
 use Rattle.iot_world.specs.Prelude.{Laptop, disk_of, is_promoted, KeepsBeside, KeepsCommits, HasPlaces, ServerNode, World, Machine, Call}
-use Rattle.iot_world.specs.Prelude.{on_both}
+use Rattle.iot_world.specs.Prelude.{IsBeside, on_both}
+use Rattle.iot_world.proofs.Common.{StandsFor}
 use Rattle.iot_world.specs.Disks.{HasEnds}
 use Rattle.iot_world.specs.World.{LeavesDisks}
 use Rattle.iot_world.proofs.PlacesLaws.{ServerFollows, has_places, kept_server, places_list, promoted_is, same_server, server_placed}
@@ -99,33 +100,59 @@ module _ {D : Type 0} (medium : Medium D) where
     stays = keeps.stays;
   }
 
-  pub stands_placed : (world : World D) → StandsForSome medium world → HasPlaces world.server
-  stands_placed world some =
-      has_places medium world.server some.machine.promoted some.machine.beside
-      (server_placed medium world.server some.machine.promoted some.machine.beside some.stands.beside)
+  pub stands_placed : (world : World D) (m : Machine) → StandsFor medium world m → HasPlaces world.server
+  stands_placed world m here =
+      has_places medium world.server m.promoted m.beside (server_placed medium world.server m.promoted m.beside here.beside)
 
-  module _ (old : World D) (some : StandsForSome medium old) where
+  module _ (old : World D) (some : IsWorldOfSome medium old) where
+    abbrev m : Machine
+    m = some.machine
+
+    abbrev beside : IsBeside medium old.server m.promoted m.beside
+    beside = some.stands.stands.beside
+
     -- the server was asked something that promotes nothing
     pub server_keeps : (server : ServerNode D) → KeepsBeside medium old.server server
         → KeepsDisk (on_both medium) (disk_of old.server) (disk_of server) → KeepsCommits medium old.server server
         → ServerKeeps false old.server server
-    server_keeps server kept keeps commits = record {
-      follows = kept_server medium old.server server (stands_placed old some) kept keeps;
-      commits = commits;
-      stays = λ no.
-          promoted_is medium server some.machine.promoted some.machine.beside (kept _ _ some.stands.beside)
-          ∙ sym (promoted_is medium old.server some.machine.promoted some.machine.beside some.stands.beside);
-    }
+    server_keeps server kept keeps commits =
+        let still = kept m.promoted m.beside beside in
+        record {
+          follows = kept_server medium old.server server m.promoted m.beside
+              (server_placed medium old.server m.promoted m.beside beside) still keeps;
+          commits = commits;
+          stays = λ no.
+              promoted_is medium server m.promoted m.beside still ∙ sym (promoted_is medium old.server m.promoted m.beside beside);
+        }
 
     -- or nothing
     pub server_same : {turns : Bool} → ServerKeeps turns old.server old.server
     server_same = record {
-      follows = same_server medium old.server (stands_placed old some);
+      follows = same_server medium old.server (stands_placed old m some.stands.stands);
       commits = commits_same medium old.server old.server refl;
       stays = λ no. refl;
     }
 
   -- ---- what an event leaves
+
+  -- no disk was spare that is not any more, and each client still has its disk
+  module _ (old new : World D) (spare : new.spare ≡ old.spare)
+      (many : length new.clients.items ≡ length old.clients.items)
+      (have : AllByRecursion LaptopHasDisk old.clients.items → AllByRecursion LaptopHasDisk new.clients.items) where
+    has_still : HasPlaces new.server → KeepsDisks old new
+    has_still there = record {
+      has = λ had. record { server = there; clients = have had.clients; room = rw (many, spare) had.room };
+      spare = rw spare (last_here old.spare.items);
+    }
+
+    leaves : {T E : Type 0} {arms turns : Bool} {joins : ℕ} (r : Result T E) → ServerKeeps turns old.server new.server
+        → Each (IsUnarmed medium) (with_clients old.clients.items old.spare.items) (with_clients new.clients.items old.spare.items)
+        → LeavesDisks medium arms joins turns r old new
+    leaves {arms = arms} {turns} {joins} r keeps between = record {
+      kept = has_still keeps.follows.now;
+      same = unless_armed arms r _
+          (arms_with {joins = joins} {turns = turns} old new keeps (rw spare between) (rw spare (omega arith)));
+    }
 
   -- another client stands at a place, and the server promoted nothing
   module _ (old : World D) (server : ServerNode D) (clients : Vec (Laptop D) Global) (c : ℕ) (was now : Laptop D)
@@ -134,75 +161,45 @@ module _ {D : Type 0} (medium : Medium D) where
     abbrev other : World D
     other = record old { server = server; clients = clients }
 
-    has_still : (LaptopHasDisk was → LaptopHasDisk now) → KeepsDisks old other
-    has_still then_ = record {
-      has = λ had. record {
-        server = keeps.follows.now;
-        clients = rw put (all_set LaptopHasDisk old.clients.items c now was
-            (λ had. then_ (subst (λ (one : Laptop _). LaptopHasDisk one) (sym value) had)) had.clients);
-        room = omega (arith, had.room, ap length put, length-set old.clients.items c now);
-      };
-      spare = last_here old.spare.items;
-    }
+    many : length clients.items ≡ length old.clients.items
+    many = ap length put ∙ length-set old.clients.items c now
 
-    kept_still : KeepsDisk medium (disk_in was) (disk_in now) → KeepsDisks old other × SameArms medium 0 false old other
-    kept_still kept = (
-      has_still (λ had. ap is_some kept.new_has),
-      arms_with old other keeps
-          (rw put (clients_put old.clients.items c was now old.spare.items (looked_up _ _ _ _ refl inside value) kept))
-          (omega arith),
-    )
+    have : (LaptopHasDisk was → LaptopHasDisk now) → AllByRecursion LaptopHasDisk old.clients.items
+        → AllByRecursion LaptopHasDisk clients.items
+    have then_ had = rw put (all_set LaptopHasDisk old.clients.items c now was
+        (λ had. then_ (subst (λ (one : Laptop _). LaptopHasDisk one) (sym value) had)) had)
 
     pub client_leaves : {T E : Type 0} (arms : Bool) (r : Result T E) → KeepsNode medium arms r was now
         → LeavesDisks medium arms 0 false r old other
-    client_leaves true (Ok done) then_ = record { kept = has_still then_; same = tt }
-    client_leaves arms r kept = let it = kept_still kept in record { kept = it.0; same = it.1 }
+    client_leaves true (Ok done) then_ =
+        record { kept = has_still old other refl many (have then_) keeps.follows.now; same = tt }
+    client_leaves arms r kept =
+        leaves old other refl many (have (λ had. ap is_some kept.new_has)) r keeps
+        (rw put (clients_put old.clients.items c was now old.spare.items (looked_up _ _ _ _ refl inside value) kept))
 
   -- only the server has changed
   module _ (old : World D) (server : ServerNode D) where
-    has_places_still : HasPlaces server → KeepsDisks old (record old { server = server })
-    has_places_still there = record {
-      has = λ had. record { server = there; clients = had.clients; room = had.room };
-      spare = last_here old.spare.items;
-    }
-
     pub server_leaves : {T E : Type 0} {arms turns : Bool} (r : Result T E) → ServerKeeps turns old.server server
         → LeavesDisks medium arms 0 turns r old (record old { server = server })
-    server_leaves {arms = arms} {turns = turns} r keeps = record {
-      kept = has_places_still keeps.follows.now;
-      same = unless_armed arms r _
-          (arms_with {joins = 0} {turns = turns} old (record old { server = server }) keeps
-          (unarmed_same (with_clients old.clients.items old.spare.items)) (omega arith));
-    }
+    server_leaves r keeps = leaves old _ refl refl (λ had. had) r keeps (unarmed_same _)
 
     -- it has armed a disk, unless there was a fault
-    pub armed_leaves : {T E A : Type 0} (r : Result T E) (call : Call Machine A) (x y : List ℕ) (a : A) → StandsForSome medium old
+    pub armed_leaves : {T E A : Type 0} (r : Result T E) (call : Call Machine A) (x y : List ℕ) (a : A) → IsWorldOfSome medium old
         → OnOk r (MakesStep medium call old (record old { server = server }) x y a) → IfErr r (λ _. server ≡ old.server)
         → LeavesDisks medium true 0 false r old (record old { server = server })
     armed_leaves (Ok done) call x y a some step same =
-        let it = step.step some.machine some.stands in
-        record {
-          kept = has_places_still (stands_placed (record old { server = server }) (record { machine = it.1; stands = it.4 }));
-          same = tt;
-        }
+        let it = step.step some.machine some.stands.stands in
+        record { kept = has_still old _ refl refl (λ had. had) (stands_placed _ it.1 it.4); same = tt }
     armed_leaves (Err fault) call x y a some step same =
         server_leaves (Err fault) (subst (ServerKeeps false old.server) (sym same) (server_same old some))
 
   -- nothing was done to a node
-  pub nothing_leaves : {T E : Type 0} {arms turns : Bool} {joins : ℕ} (r : Result T E) (old new : World D) → StandsForSome medium old
+  pub nothing_leaves : {T E : Type 0} {arms turns : Bool} {joins : ℕ} (r : Result T E) (old new : World D) → IsWorldOfSome medium old
       → new.server ≡ old.server → new.clients.items ≡ old.clients.items → new.spare ≡ old.spare
       → LeavesDisks medium arms joins turns r old new
-  nothing_leaves {arms = arms} {turns = turns} {joins = joins} r old new some server clients spare =
-      let few : length old.spare.items ≤ length new.spare.items + joins = rw spare (omega arith) in
-      record {
-        kept = record {
-          has = λ had. record { server = rw server had.server; clients = rw clients had.clients; room = rw (clients, spare) had.room };
-          spare = rw spare (last_here old.spare.items);
-        };
-        same = unless_armed arms r _
-            (arms_with {joins = joins} {turns = turns} old new (rw server (server_same old some))
-            (rw (clients, spare) (unarmed_same (with_clients old.clients.items old.spare.items))) few);
-      }
+  nothing_leaves r old new some server clients spare =
+      leaves old new spare (ap length clients) (λ had. rw clients had) r (rw server (server_same old some))
+      (rw clients (unarmed_same _))
 
 -- ---- the disks that a world gives back
 

@@ -5,24 +5,23 @@ use Rattle.iot_world.proofs.Common.{◌≡◌, ◌+◌, ℕ, List, [], ◌∷◌
 use Rattle.iot_world.proofs.Common.{arith, length-append, map-append, lasts, node_stands, IsListed, Holds, IsKept, KeepsClient}
 use Rattle.iot_world.proofs.Common.{DisksHold, KeepsNode, Each, StandsFor, Opens, KeepsDisks, with_clients}
 use Rattle.iot_world.proofs.Common.{disks_of, length-map, with_first, running_kept, state_kept, stands_go_on, own_goes_on, image_goes_on}
-use Rattle.iot_world.proofs.Common.{HoldsList, SameArms, Bool, true, false, ◌⊎◌, ◌||◌}
+use Rattle.iot_world.proofs.Common.{SameArms, Bool, true, false, ◌⊎◌, ◌||◌}
+use Rattle.iot_world.specs.World.{StandsIn}
 use Rattle.iot_world.specs.Disks.{CountOn, ServerBegins, other_of, own_of, with_ends}
-use Rattle.iot_world.specs.Holding.{HoldTogether, HoldsServer}
+use Rattle.iot_world.specs.Holding.{HoldsServer}
 use Rattle.iot_world.specs.Prelude.{Disks, Image, LacksCommit, on_both, paired, placed}
 use Rattle.iot_server_node.specs.Disks.{MayLeave}
-use Rattle.iot_world.proofs.BeginsLaws.{begins_there, leave_both, leaves_last, lone, pair_of}
+use Rattle.iot_world.proofs.BeginsLaws.{begins_there, last_begins, lone, pair_of, pairs_begin}
 use Rattle.iot_world.proofs.PlacesLaws.{ServerPlaced, ends_as, has_places, places_list, promoted_at, promoted_is, server_list}
 use Rattle.iot_world.proofs.PlacesLaws.{server_placed}
 use Rattle.std.proofs.lemmas.Bool.{or_parts}
 use Rattle.iot_disk.specs.Disk.{Storing}
 use Rattle.iot_world.specs.Prelude.{IsPlaced}
-use Rattle.iot_server_node.specs.Servers.{IsOneMore}
 use Rattle.iot_world.specs.Prelude.{is_some, true, Result, Ok, Err, IfErr, OnOk, StandFor, State, Medium, Call, Declared, ClientState}
 use Rattle.iot_world.specs.Prelude.{names_in, no_text, Machine, Commit, Node, Counts, Refines, kept_text, CountsOn, counts_on}
 use Rattle.iot_world.specs.Prelude.{Keeping, PostStands, HoldsEither, Post, Up, Down, Between, lists, IsImage}
 use Rattle.iot_world.specs.Prelude.{ClientStands, StandsAnyhow, disk_in, IsClientImage, seating, Laptop, World}
-use Rattle.iot_world.specs.Prelude.{Client, Transaction, GoesOnFrom, IsOneMoreIfAny}
-use Rattle.iot_judging.specs.Lists.{state_of}
+use Rattle.iot_world.specs.Prelude.{Client, Transaction, IsOneMoreIfAny}
 use Rattle.iot_machine.specs.Machine as machine
 use Rattle.iot_node.specs.Posts.{disk_of}
 use Rattle.iot_node.specs.Prelude.{next}
@@ -59,13 +58,12 @@ module _ {D : Type 0} (medium : Medium D) (world : World D) (m : Machine) (here 
       (with_clients world.clients.items world.spare.items)
       ∙ ap (λ (ds : List D). with_ends placed_in.first placed_in.last ds) (clients_before world.clients.items world.spare.items)
 
-module _ {D : Type 0} (medium : Medium D) (world : World D) (m : Machine) (stands : StandsFor medium world m) where
   -- those that no client has
   pub eight_spare : length world.spare.items + length m.clients ≡ 8
-  eight_spare = omega (arith, same_length medium world m stands, stands.eight)
+  eight_spare = omega (arith, same_length medium world m here, here.eight)
 
   pub eight_counts : length m.clients + length m.spare ≡ 8
-  eight_counts = omega (arith, eight_spare, ap length stands.counts, length-map world.spare.items (counts_on medium))
+  eight_counts = omega (arith, eight_spare, ap length here.counts, length-map world.spare.items (counts_on medium))
 
 -- ---- what a client keeps
 
@@ -162,39 +160,36 @@ module _ {D : Type 0} (medium : Medium D) where
     abbrev Either : Option (List Commit) → Image → Type 0
     Either doubt = HoldsEither (lists medium) (on_both medium) count (record node { doubt = doubt })
 
-    -- if the first has a commit more, the second has it, too, or lacks it
-    hold_together : (one other : List ℕ) (after : List Commit) → Either (Some after) (pair_of one other)
-        → HoldTogether one other node.durable after
-    hold_together one other after there = elim (in_doubt there) [
-      | inl are ↦ inl (is_listed node.durable one count are.disk, is_listed node.durable other count are.backup)
-      | inr it ↦ inr (record {
-        first = is_listed after one (next count) it.disk;
-        second = elim it.backup [
-          | inl lacks ↦ inr (subst (λ (n : ℕ). LacksCommit one other n node.durable after) lacks.image.counted lacks)
-          | inr has ↦ inl (is_listed after other (next count) has)
-        ];
-      })
-    ]
-
+    -- of two, if the first has a commit more, the second has it, too, or lacks it
     hold_server : (promoted : Bool) (first last : D) (doubt : Option (List Commit))
         → ((image : Image) → MayLeave medium (placed promoted first last) image → Either doubt image)
         → HoldsServer promoted (medium.may_leave first) (medium.may_leave last) node.durable doubt
     hold_server false first last None each = (
       λ one left.
           is_listed node.durable one count
-          (settled (each (pair_of one (medium.reads last)) (leave_both medium first last one _ left (is_image last)))).disk,
+          (settled (each (pair_of one (medium.reads last)) (record { disk = left; backup = is_image last }))).disk,
       λ other left.
           is_listed node.durable other count
-          (settled (each (pair_of (medium.reads first) other) (leave_both medium first last _ other (is_image first) left))).backup,
+          (settled (each (pair_of (medium.reads first) other) (record { disk = is_image first; backup = left }))).backup,
     )
-    hold_server false first last (Some after) each = λ one other there here.
-        hold_together one other after (each (pair_of one other) (leave_both medium first last one other there here))
-    hold_server true first last None each = λ one left.
-        is_listed node.durable one count (settled (each (lone one) (leaves_last medium first last one left))).disk
-    hold_server true first last (Some after) each = λ one left. elim (in_doubt (each (lone one) (leaves_last medium first last one left))) [
-      | inl are ↦ inl (is_listed node.durable one count are.disk)
-      | inr it ↦ inr (is_listed after one (next count) it.disk)
-    ]
+    hold_server false first last (Some after) each =
+        λ one other there here. elim (in_doubt (each (pair_of one other) (record { disk = there; backup = here }))) [
+          | inl are ↦ inl (is_listed node.durable one count are.disk, is_listed node.durable other count are.backup)
+          | inr it ↦ inr (record {
+            first = is_listed after one (next count) it.disk;
+            second = elim it.backup [
+              | inl lacks ↦ inr (subst (λ (n : ℕ). LacksCommit one other n node.durable after) lacks.image.counted lacks)
+              | inr has ↦ inl (is_listed after other (next count) has)
+            ];
+          })
+        ]
+    hold_server true first last None each =
+        λ one left. is_listed node.durable one count (settled (each (lone one) (record { disk = left; backup = tt }))).disk
+    hold_server true first last (Some after) each =
+        λ one left. elim (in_doubt (each (lone one) (record { disk = left; backup = tt }))) [
+          | inl are ↦ inl (is_listed node.durable one count are.disk)
+          | inr it ↦ inr (is_listed after one (next count) it.disk)
+        ]
 
   -- ---- all of them
 
@@ -202,12 +197,12 @@ module _ {D : Type 0} (medium : Medium D) where
   abbrev CountsClient : D → machine.Client → Type 0
   CountsClient disk m = KeepsClient medium disk m × (counts_on medium disk ≡ m.node.counts)
 
-  clients_hold : (scripts : List Declared) (laptops : List (Laptop D)) (ms : List machine.Client)
-      → Each (ClientStands medium scripts) laptops ms → Each CountsClient (with_clients laptops []) ms
-  clients_hold scripts [] [] all = tt
-  clients_hold scripts (laptop ∷ laptops) (m ∷ ms) all =
-      let one = client_holds scripts laptop m all.0 in rw one.1 ((one.2, one.3), clients_hold scripts laptops ms all.1)
-  clients_hold scripts laptops ms all = absurd all
+  clients_hold : (scripts : List Declared) (commits : List Commit) (laptops : List (Laptop D)) (ms : List machine.Client)
+      → Each (StandsIn medium scripts commits) laptops ms → Each CountsClient (with_clients laptops []) ms
+  clients_hold scripts commits [] [] all = tt
+  clients_hold scripts commits (laptop ∷ laptops) (m ∷ ms) all =
+      let one = client_holds scripts laptop m all.0.client in rw one.1 ((one.2, one.3), clients_hold scripts commits laptops ms all.1)
+  clients_hold scripts commits laptops ms all = absurd all
 
   module _ (world : World D) (m : Machine) (here : StandsFor medium world m) where
     abbrev two : ServerPlaced medium world.server m.promoted m.beside
@@ -234,7 +229,7 @@ module _ {D : Type 0} (medium : Medium D) where
     theirs = with_clients world.clients.items []
 
     held : Each CountsClient theirs m.clients
-    held = clients_hold m.scripts world.clients.items m.clients here.clients_
+    held = clients_hold m.scripts m.server.durable world.clients.items m.clients here.clients_
 
     -- they have counted what the machine's disks have
     pub disks_count : CountOn medium m two.first two.last (theirs ++ world.spare.items)
@@ -298,72 +293,48 @@ module _ {D : Type 0} (medium : Medium D) (is_image : (disk : D) → medium.may_
     abbrev spot : IsPlaced arms.places.disks
     spot = arms.places.placed
 
-    still_begins : ServerBegins medium (m.promoted || turns) m.server.durable spot.first spot.last
-    still_begins =
+    -- at whatever ends its disks have
+    pub still_begins_at : (first last : D) (others : List D) → disks_of new ≡ with_ends first last others
+        → ServerBegins medium (m.promoted || turns) m.server.durable first last
+    still_begins_at first last others is =
         let begins = begins_there medium is_image m.server.durable new.server arms.places
         (arms.commits.keeps (names_in m) m.server m.requests here.server) in
-        record {
+        ends_as (λ (one other : D) (xs : List D). ServerBegins medium (m.promoted || turns) m.server.durable one other)
+        spot.first spot.last first last (with_clients new.clients.items new.spare.items) others
+        (sym (places_list medium new.server arms.places (with_clients new.clients.items new.spare.items)) ∙ is) (record {
           of_last = begins.of_last;
           of_first = λ none.
               let both = or_parts m.promoted turns none in
               begins.of_first
               (sym (promoted_at medium new.server arms.places)
               ∙ arms.stays both.1 ∙ promoted_is medium old.server m.promoted m.beside here.beside ∙ both.0);
-        }
-
-    -- at whatever ends its disks have
-    pub still_begins_at : (first last : D) (others : List D) → disks_of new ≡ with_ends first last others
-        → ServerBegins medium (m.promoted || turns) m.server.durable first last
-    still_begins_at first last others is =
-        ends_as (λ (one other : D) (xs : List D). ServerBegins medium (m.promoted || turns) m.server.durable one other)
-        spot.first spot.last first last (with_clients new.clients.items new.spare.items) others
-        (sym (places_list medium new.server arms.places (with_clients new.clients.items new.spare.items)) ∙ is) still_begins
+        })
 
   -- so it is of a list that the images hold
   module _ (commits : List Commit) where
-    listed_begins : (image : List ℕ) → IsListed commits image → GoesOnFrom (state_of commits) image
-    listed_begins image is = own_goes_on image (length commits) commits is
-
-    longer_begins : (image : List ℕ) (after : List Commit) → IsOneMore commits after → IsListed after image
-        → GoesOnFrom (state_of commits) image
-    longer_begins image after longer is = image_goes_on image (length after) commits after longer is
-
-    list_begins : (images : List ℕ → Type 0) (doubt : Option (List Commit)) → IsOneMoreIfAny commits doubt
-        → HoldsList images commits doubt → (image : List ℕ) → images image → GoesOnFrom (state_of commits) image
-    list_begins images None longer holds image there = listed_begins image (holds image there)
-    list_begins images (Some after) longer holds image there = elim (holds image there) [
-      | inl is ↦ listed_begins image is
-      | inr is ↦ longer_begins image after longer is
-    ]
-
-    together_begins : (one other : List ℕ) (after : List Commit) → IsOneMore commits after → HoldTogether one other commits after
-        → GoesOnFrom (state_of commits) one × GoesOnFrom (state_of commits) other
-    together_begins one other after longer (inl both) = (listed_begins one both.0, listed_begins other both.1)
-    together_begins one other after longer (inr it) = (
-      longer_begins one after longer it.first,
-      elim it.second [
-        | inl has ↦ longer_begins other after longer has
-        | inr lacks ↦ own_goes_on other (length commits) commits lacks.image
-      ],
-    )
-
     server_begins : (promoted : Bool) (first last : D) (doubt : Option (List Commit)) → IsOneMoreIfAny commits doubt
         → HoldsServer promoted (medium.may_leave first) (medium.may_leave last) commits doubt
         → ServerBegins medium promoted commits first last
-    server_begins true first last doubt longer holds =
-        record { of_last = record { each = list_begins (medium.may_leave last) doubt longer holds }; of_first = λ own. absurd cc }
-    server_begins false first last None longer holds = record {
-      of_last = record { each = list_begins (medium.may_leave last) None longer holds.1 };
-      of_first = λ own. record { each = list_begins (medium.may_leave first) None longer holds.0 };
-    }
-    server_begins false first last (Some after) longer holds = record {
-      of_last = record {
-        each = λ image there. (together_begins _ image after longer (holds (medium.reads first) image (is_image first) there)).1;
-      };
-      of_first = λ own. record {
-        each = λ image there. (together_begins image _ after longer (holds image (medium.reads last) there (is_image last))).0;
-      };
-    }
+    server_begins true first last None longer holds =
+        last_begins medium is_image commits first last (λ image there. own_goes_on image (length commits) commits (holds image there))
+    server_begins true first last (Some after) longer holds =
+        last_begins medium is_image commits first last (λ image there. elim (holds image there) [
+          | inl is ↦ own_goes_on image (length commits) commits is
+          | inr is ↦ image_goes_on image (length after) commits after longer is
+        ])
+    server_begins false first last None longer holds = pairs_begin medium is_image commits first last (λ one other there here.
+        (own_goes_on one (length commits) commits (holds.0 one there), own_goes_on other (length commits) commits (holds.1 other here)))
+    server_begins false first last (Some after) longer holds =
+        pairs_begin medium is_image commits first last (λ one other there here. elim (holds one other there here) [
+          | inl both ↦ (own_goes_on one (length commits) commits both.0, own_goes_on other (length commits) commits both.1)
+          | inr it ↦ (
+            image_goes_on one (length after) commits after longer it.first,
+            elim it.second [
+              | inl has ↦ image_goes_on other (length after) commits after longer has
+              | inr lacks ↦ own_goes_on other (length commits) commits lacks.image
+            ],
+          )
+        ])
 
   pub held_begins : (handed back : List D) (m : Machine) (held : DisksHold medium handed back m)
       → ServerBegins medium m.promoted m.server.durable held.first held.last

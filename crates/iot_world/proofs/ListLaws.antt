@@ -1,5 +1,6 @@
 -- Lists that are looked up and changed at a place, and lists that go together by place.
 use Rattle.std.proofs.lemmas.Option.{same_Some, slice_get_read}
+use Rattle.std.proofs.lemmas.Slice.Zip.{AllZip-long}
 use Rattle.iot_world.proofs.Common.{◌≡◌, ◌<◌, ℕ, zero, suc, List, [], ◌∷◌, ◌++◌, length, map, refl, sym, ap, subst, ◌∙◌, slice_get}
 use Rattle.iot_world.proofs.Common.{slice_index_or, slice_set, get_or, Some, Each}
 use Rattle.std.specs.List.{AllByRecursion}
@@ -12,13 +13,7 @@ pub looked_up : {A : Type 0} (xs ys : List A) (place : ℕ) (x : A) → ys ≡ x
 looked_up xs ys place x same within value =
     ap (λ l. slice_get l place) (sym same) ∙ slice_get_read ys (length ys) place x refl within value
 
--- so what is so of all is so of it
-pub all_got : {A : Type 0} (P : A → Type 0) (xs : List A) (place : ℕ) (x : A) → AllByRecursion P xs → slice_get xs place ≡ Some x → P x
-all_got P [] place x all is = absurd cc
-all_got P (y ∷ xs) zero x all is = subst P (same_Some y x is) all.0
-all_got P (y ∷ xs) (suc place) x all is = all_got P xs place x all.1 is
-
--- of all and one more
+-- what is so of all and one more
 pub all_split : {A : Type 0} (P : A → Type 0) (xs : List A) (y : A) → AllByRecursion P (xs ++ y ∷ []) → AllByRecursion P xs × P y
 all_split P [] y all = (tt, all.0)
 all_split P (x ∷ xs) y all = let rest = all_split P xs y all.1 in ((all.0, rest.0), rest.1)
@@ -40,9 +35,7 @@ module _ {W M : Type 0} (stands : W → M → Type 0) where
   each_push ws ms w m it all = absurd all
 
   pub each_length : (ws : List W) (ms : List M) → Each stands ws ms → length ws ≡ length ms
-  each_length [] [] all = refl
-  each_length (w ∷ ws) (m ∷ ms) all = ap suc (each_length ws ms all.1)
-  each_length ws ms all = absurd all
+  each_length ws ms all = sym (AllZip-long stands ws ms all)
 
   -- what follows of each two of them, and what they have in common
   pub each_map : (others : W → M → Type 0) → ((w : W) (m : M) → stands w m → others w m) → (ws : List W) (ms : List M) → Each stands ws ms

@@ -14,35 +14,29 @@ use Rattle.iot_standing.specs.Kept.{ItemsStand}
 use Rattle.iot_standing.specs.States.{RunStand}
 use Rattle.iot_tree.specs.declared.labels.Label.{Label}
 use Rattle.iot_world.proofs.Common.{None, inl, inr, lent_at, LendsClient, ClientIs, IsReady}
-use Rattle.iot_world.proofs.Common.{says_this, same_name, awake_stands, fallen_stands, StandsFor, IsWorldOfSome, MakesStep}
+use Rattle.iot_world.proofs.Common.{same_name, awake_stands, fallen_stands, StandsFor, IsWorldOfSome, MakesStep}
 use Rattle.iot_world.proofs.Common.{slice_get, ◌≤◌, arith, false, codes, refl, length-map, map_more, take_all, bind, asks, says}
-use Rattle.iot_world.proofs.Common.{◌≡◌, ℕ, ◌<◌, true, List, [], ◌∷◌, ◌++◌, length, map, Option, Some, ◌+◌, take, sym, ap, subst, ◌∙◌}
+use Rattle.iot_world.proofs.Common.{◌≡◌, ℕ, ◌<◌, true, List, [], ◌∷◌, ◌++◌, length, Option, Some, ◌+◌, take, sym, ap, subst, ◌∙◌}
 use Rattle.iot_world.proofs.ListLaws.{each_same_as}
 use Rattle.iot_world.proofs.WorldsLaws.{same_length, inside_here, client_here}
 use Rattle.iot_world.specs.Looks.{client_names, HasTold, AddsTold, Tells}
 use Rattle.iot_world.specs.Prelude.{AllByRecursion, Server, Medium, Logs, names_in, node_part, Machine, Commit, Client}
-use Rattle.iot_world.specs.Prelude.{Up, disk_in, Seated}
+use Rattle.iot_world.specs.Prelude.{Bool, Says, Up, disk_in, Seated}
+use Rattle.iot_machine.specs.Calls.{either}
+use Rattle.iot_world.specs.World.{StandsIn}
 use Rattle.iot_world.specs.Prelude.{client_in, no_client, IsListed, log_text, line, IsServerOf, ClientStands, Laptop, World, Nodes, Item}
-use Rattle.iot_world.specs.Prelude.{shown, named, Json, view, Declared, ClientState, client_data, Show, Node, Shows, Refines, IfSome, Post}
+use Rattle.iot_world.specs.Prelude.{shown, named, Json, view, Declared, client_data, Show, Shows, Refines, IfSome, Post}
 use Rattle.serde_json.specs.Data.{Data}
 use Rattle.std.proofs.lemmas.List.Elements.{All-from_recursion, All-map, All-weaker}
-use Rattle.std.proofs.lemmas.Option.{get_or_from_slice_get, slice_get_within, same_Some}
+use Rattle.std.proofs.lemmas.Option.{same_Some}
 
 module _ {D : Type 0} (medium : Medium D) where
   -- ---- the names of the clients
 
-  -- the names of so many, and of one more
-  pub names_more : (ls : List (Laptop D)) (n : ℕ) (laptop : Laptop D) (old new : List (List ℕ)) (name : List ℕ)
-      → slice_get ls n ≡ Some laptop → name ≡ laptop.name → old ≡ map (λ (l : Laptop D). l.name) (take n ls)
-      → new ≡ old ++ name ∷ [] → new ≡ map (λ (l : Laptop D). l.name) (take (n + 1) ls)
-  names_more ls n laptop old new name get is so_far pushed =
-      let here = get_or_from_slice_get ls n laptop laptop get in
-      let more = map_more (λ (l : Laptop D). l.name) ls n laptop (slice_get_within ls n laptop get) in cc
-
   pub names_are : (world : World D) (m : Machine) → StandsFor medium world m → client_names world ≡ names_in m
   names_are world m here =
-      each_same_as (ClientStands medium m.scripts) (λ (l : Laptop D). l.name) (λ (k : machine.Client). k.name) (same_name medium m.scripts)
-      world.clients.items m.clients here.clients_
+      each_same_as (StandsIn medium m.scripts m.server.durable) (λ (l : Laptop D). l.name) (λ (k : machine.Client). k.name)
+      (λ laptop k it. same_name medium m.scripts laptop k it.client) world.clients.items m.clients here.clients_
 
   -- ---- the list
 
@@ -104,51 +98,45 @@ module _ {D : Type 0} (medium : Medium D) where
     tells_more old new so_far one = λ m here.
         let front : HasTold (take n m.clients) old = so_far m here in
         let added : AddsTold (client_in m n) old new =
-        one m.scripts (client_in m n) (client_here medium world m here n laptop get) in
+        one m.scripts (client_in m n) (client_here medium world m here n laptop get).client in
         let within : n < length m.clients = inside_here medium world m here n laptop get in
         record {
           clients = rw (added.clients, front.clients) (sym (map_more client_data m.clients n no_client within));
           names = rw (added.names, front.names) (sym (map_more (λ (client : Client). client.name) m.clients n no_client within));
         }
 
+  -- all of them
   pub tells_all : (world : World D) (n : ℕ) (json : Json) → length world.clients.items ≤ n → TellsFirst world n json → (m : Machine)
       → StandsFor medium world m → HasTold m.clients json
   tells_all world n json all so_far m here =
-      let long : length world.clients.items ≡ length m.clients = same_length medium world m here in
-      subst (λ (ms : List Client). HasTold ms json) (take_all n m.clients (omega (arith, all, long))) (so_far m here)
+      rw (take_all n m.clients (omega (arith, all, same_length medium world m here))) at (so_far m here)
 
 -- ---- the view of a client
 
 module _ {D : Type 0} (medium : Medium D) (laptop : Laptop D) (x y : List ℕ) where
-  -- a call of its node that leaves it
-  stays_shown : (scripts : List Declared) → ((m : Client) → ClientStands medium scripts laptop m
-      → Refines (λ (w : Laptop D) (n : Node ClientState). n ≡ m.node) (Shows (λ state. tree_text (view state))) laptop laptop x y tt)
+  -- what its node says leaves it
+  shown_by : (on : Bool) (said : List ℕ) → y ≡ x ++ said → (scripts : List Declared)
+      → ((m : Client) → ClientStands medium scripts laptop m → (on ≡ m.node.alive)
+      × either (Says (λ node. tree_text (view node.durable))) (Says (λ _. line (codes "down"))) on m.node said tt m.node)
       → Refines (ClientStands medium scripts) (node_part Show) laptop laptop x y tt
-  stays_shown scripts one = record {
+  shown_by on said wrote scripts each = record {
     step = λ m here.
-        let s = (one m here).step m.node refl in
-        let leaves = subst (λ (n : Node ClientState). ClientStands medium scripts laptop (record m { node = n })) (sym s.4) here in
-        (s.0, record m { node = s.1 }, s.2, record { inner = s.1; step = s.3; is = refl }, leaves);
+        let it = each m here in
+        let shows : Shows (λ state. tree_text (view state)) m.node said tt m.node =
+        record { mid = m.node; front = []; rest = said; answer = on; first = (refl, it.0, refl); second = it.1; whole = refl } in
+        (said, m, wrote, record { inner = m.node; step = shows; is = refl }, here);
   }
 
   pub shows : (t : Nodes) → is_alive laptop ≡ true → IsView medium t laptop → y ≡ x ++ tree_text t
       → (scripts : List Declared) → Refines (ClientStands medium scripts) (node_part Show) laptop laptop x y tt
-  shows t up is wrote scripts = stays_shown scripts (λ m here.
-      let there : LaptopStands medium scripts laptop m = awake_stands medium scripts laptop m up here in
-      bind {a = true}
-      (asks (λ n same. sym (ap (λ (n : Node ClientState). n.alive) same ∙ there.alive)))
-      (says
-      (λ n same. wrote ∙ ap (λ (t : Nodes). x ++ tree_text t)
-      (is scripts m there ∙ ap (λ (n : Node ClientState). view n.durable) (sym same)))))
+  shows t up is wrote scripts = shown_by true (tree_text t) wrote scripts (λ m here.
+      let there = awake_stands medium scripts laptop m up here in (sym there.alive, (ap tree_text (is scripts m there), refl)))
 
   -- one that is down shows nothing
   pub shows_down : is_alive laptop ≡ false → y ≡ x ++ line (codes "down")
       → (scripts : List Declared) → Refines (ClientStands medium scripts) (node_part Show) laptop laptop x y tt
-  shows_down down wrote scripts = stays_shown scripts (λ m here.
-      let there = fallen_stands medium scripts laptop m down here in
-      bind {a = false}
-      (asks (λ n same. sym (ap (λ (n : Node ClientState). n.alive) same ∙ there.alive)))
-      (says_this wrote))
+  shows_down down wrote scripts =
+      shown_by false _ wrote scripts (λ m here. (sym (fallen_stands medium scripts laptop m down here).alive, (refl, refl)))
 
 -- ---- the clients that a world lends
 
@@ -164,7 +152,7 @@ module _ {D : Type 0} (medium : Medium D) where
         → LendsClient medium o place m
     lends_any None is m here =
         inr (fallen_stands medium m.scripts laptop (client_in m place) (down_by laptop.post is)
-        (client_here medium world m here place laptop get)).alive
+        (client_here medium world m here place laptop get).client).alive
       where
         down_by : (post : Post (Seated D) D) → None ≡ lent_by post → is_alive (record laptop { post = post }) ≡ false
         down_by (Up seated) none = absurd cc
@@ -173,7 +161,7 @@ module _ {D : Type 0} (medium : Medium D) where
         let up : laptop.post ≡ Up (record { client = it }) = lent_up laptop.post it is in
         let there : LaptopStands medium m.scripts laptop (client_in m place) =
         awake_stands medium m.scripts laptop (client_in m place) (ap (λ (p : Post (Seated D) D). is_alive (record laptop { post = p })) up)
-        (client_here medium world m here place laptop get) in
+        (client_here medium world m here place laptop get).client in
         let lent : IsLent medium laptop it =
         lent_at medium laptop it up (record { scripts = m.scripts; machine = client_in m place; stands = there }) in
         let within : place < length m.clients = inside_here medium world m here place laptop get in

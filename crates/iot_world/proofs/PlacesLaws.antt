@@ -5,7 +5,7 @@ use Rattle.std.proofs.lemmas.Option.{same_Some}
 use Rattle.iot_world.proofs.Common.{◌≡◌, ◌⊎◌, ◌+◌, Bool, true, false, List, [], ◌∷◌, length, drop, Option, Some, None, refl, sym}
 use Rattle.iot_world.proofs.Common.{ap, subst, ◌∙◌, arith, slice_index_or, length-append, inl, inr}
 use Rattle.iot_world.specs.Prelude.{option_map, Arms, Medium, Disks, placed, sides, sides_of, on_both, ServerNode}
-use Rattle.iot_world.specs.Prelude.{IsBeside, HasOther, HasPlaces, KeepsBeside, KeepsDisk, TurnsToBackup, Post, Up, Down, Between}
+use Rattle.iot_world.specs.Prelude.{IsBeside, HasOther, HasPlaces, KeepsDisk, TurnsToBackup, Post, Up, Down, Between}
 use Rattle.iot_world.specs.Prelude.{disk_of, is_promoted, is_up, turned_post}
 use Rattle.iot_node.specs.Posts as posts
 use Rattle.iot_server_node.specs.Disks.{Sides, turned}
@@ -135,25 +135,23 @@ module _ {D : Type 0} (medium : Medium D) where
   }
 
   -- those that a node had, kept by a call
-  pub pairs_follow : (before after : Option (Disks D)) (promoted : Bool) (first last new_first new_last : D)
-      → before ≡ Some (placed promoted first last) → after ≡ Some (placed promoted new_first new_last)
-      → medium.arms (other_of promoted new_first new_last) ≡ medium.arms (other_of promoted first last)
-      → KeepsDisk (on_both medium) before after → AreTwoUnarmed medium first last new_first new_last
-  pairs_follow before after promoted first last new_first new_last had has other keeps =
-      let was : keeps.was ≡ placed promoted first last = same_Some _ _ (sym keeps.old_has ∙ had) in
-      let now : keeps.now ≡ placed promoted new_first new_last = same_Some _ _ (sym keeps.new_has ∙ has) in
-      two_unarmed promoted first last new_first new_last (rw (was, now) at keeps.arms) other (rw (was, now) at keeps.faults)
+  pub pairs_follow : (old new : ServerNode D) (promoted : Bool) (arms : Arms) (had : ServerPlaced old promoted arms)
+      (has : ServerPlaced new promoted arms) → KeepsDisk (on_both medium) (disk_of old) (disk_of new)
+      → AreTwoUnarmed medium had.first had.last has.first has.last
+  pairs_follow old new promoted arms had has keeps =
+      let was : keeps.was ≡ placed promoted had.first had.last = same_Some _ _ (sym keeps.old_has ∙ had.has) in
+      let now : keeps.now ≡ placed promoted has.first has.last = same_Some _ _ (sym keeps.new_has ∙ has.has) in
+      two_unarmed promoted had.first had.last has.first has.last (rw (was, now) at keeps.arms) (has.beside ∙ sym had.beside)
+      (rw (was, now) at keeps.faults)
 
-  abbrev pub kept_server : (old new : ServerNode D) → HasPlaces old → KeepsBeside medium old new
-      → KeepsDisk (on_both medium) (disk_of old) (disk_of new) → ServerFollows old new
-  kept_server old new had kept keeps =
-      let other = other_there old had in
-      let there = server_placed new other.promoted other.arms (kept other.promoted other.arms other.beside) in
+  abbrev pub kept_server : (old new : ServerNode D) (promoted : Bool) (arms : Arms) → ServerPlaced old promoted arms
+      → IsBeside medium new promoted arms → KeepsDisk (on_both medium) (disk_of old) (disk_of new) → ServerFollows old new
+  kept_server old new promoted arms had beside keeps =
+      let has = server_placed new promoted arms beside in
       record {
-        was = had;
-        now = has_places new other.promoted other.arms there;
-        unarmed = pairs_follow (disk_of old) (disk_of new) other.promoted had.placed.first had.placed.last there.first there.last
-            (places_have old had) there.has there.beside keeps;
+        was = has_places old promoted arms had;
+        now = has_places new promoted arms has;
+        unarmed = pairs_follow old new promoted arms had has keeps;
       }
 
   -- nothing was done to it
@@ -175,13 +173,10 @@ module _ {D : Type 0} (medium : Medium D) where
   turned_server old new arms here down turns =
       let one = server_placed old false arms here in
       let had = turned_has old.post one.first one.last down one.has in
-      let other = server_placed new true (medium.arms one.first) (record { is = turns.beside ∙ ap (option_map (sides_of medium)) had }) in
-      record {
-        was = has_places old false arms one;
-        now = has_places new true (medium.arms one.first) other;
-        unarmed = pairs_follow (disk_of (record { post = turned_post old.post })) (disk_of new) true one.first one.last other.first
-            other.last had other.has other.beside turns.disks;
-      }
+      let follows = kept_server (record { post = turned_post old.post }) new true (medium.arms one.first)
+      (record { first = one.first; last = one.last; has = had; beside = refl })
+      (record { is = turns.beside ∙ ap (option_map (sides_of medium)) had }) turns.disks in
+      record { was = has_places old false arms one; now = follows.now; unarmed = follows.unarmed }
 
   -- whether it turns to its backup, or stays as it was
   pub promoted_follows : (old new : ServerNode D) (promoted : Bool) (arms : Arms) → IsBeside medium old promoted arms

@@ -1,6 +1,6 @@
 -- What decides whether a record that is in doubt is kept: the image from which its node comes back. So if all images of that disk have it,
 -- or none has it, that decides. The server comes back from its first disk by a restart, and from its backup by a promotion.
-use Rattle.std.specs.Prelude.{◌≡◌}
+use Rattle.std.specs.Prelude.{◌≡◌, ◌++◌, []}
 use Rattle.iot_world.specs.Prelude.{Disks, Post, on_both, is_promoted, turned_post, false}
 use Rattle.iot_world.specs.Prelude.{ℕ, true, List, Medium, Event, NodeEvent, Restart, Declared, Client, Commit, server_name, is_fallen}
 use Rattle.iot_world.specs.Prelude.{CameIf, words_of, lists, ServerStands, post_of, is_up, Came, ClientStands, Laptop, World}
@@ -37,9 +37,16 @@ abbrev pub ClientDecides : {D : Type 0} → Medium D → NodeEvent → (before a
 ClientDecides medium Restart before after laptop = DecidesClient medium before after laptop
 ClientDecides medium other before after laptop = Unit {0}
 
-abbrev pub Decides : {D : Type 0} → Medium D → Event → (old new : World D) → (before after : List ℕ) → Type 0
-Decides medium (events.Server Restart) old new before after = DecidesComeback medium comebacks.Restart old new before after
-Decides medium events.Promote old new before after =
+-- a node that the event brings back, in a text that it was added to
+abbrev pub DecidesIn : {D : Type 0} → Medium D → Event → (old new : World D) → (before after : List ℕ) → Type 0
+DecidesIn medium (events.Server Restart) old new before after = DecidesComeback medium comebacks.Restart old new before after
+DecidesIn medium events.Promote old new before after =
     is_promoted old.server ≡ false → DecidesComeback medium comebacks.Promote old new before after
-Decides medium (events.At client (Node what)) old new before after = ClientIs (ClientDecides medium what before after) client old
-Decides medium other old new before after = Unit {0}
+DecidesIn medium (events.At client (Node what)) old new before after = ClientIs (ClientDecides medium what before after) client old
+DecidesIn medium other old new before after = Unit {0}
+
+-- the same by what was added, whatever it was added to
+pub record Decides {D : Type 0} (medium : Medium D) (event : Event) (old new : World D) (before after : List ℕ) : Type 0 where
+  pub text : List ℕ
+  pub wrote : after ≡ before ++ text
+  pub decides : DecidesIn medium event old new [] text

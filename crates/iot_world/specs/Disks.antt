@@ -5,20 +5,13 @@ use Rattle.iot_world.specs.Prelude.{ℕ, Bool, true, false, List, [], length, ma
 use Rattle.iot_world.specs.Prelude.{Machine, Client, paired}
 use Rattle.iot_judging.specs.Lists.{state_of}
 use Rattle.iot_count.specs.Counts.{Rose}
+pub use Rattle.std.specs.List.{AllZip as Each}
 pub use Rattle.iot_node.specs.Disks.{counts_on, IsEmpty, CountsOn}
 
 -- ten empty disks on which nothing is pending
 pub record AreFresh {D : Type 0} (medium : Medium D) (disks : List D) : Type 0 where
   pub ten : length disks ≡ 10
   pub each : AllByRecursion (IsEmpty medium) disks
-
--- ---- two lists by place
-
--- two lists of the same length, whose elements go together by place
-abbrev pub Each : {W M : Type 0} → (W → M → Type 0) → List W → List M → Type 0
-Each stands [] [] = Unit {0}
-Each stands (w ∷ ws) (m ∷ ms) = stands w m × Each stands ws ms
-Each stands ws ms = ⊥
 
 -- ---- the first and the last
 

@@ -15,10 +15,6 @@ abbrev pub Holds : {S : Type 0} → (S → List ℕ → Type 0) → (images : Li
 Holds Is images s None = (image : List ℕ) → images image → Is s image
 Holds Is images s (Some after) = (image : List ℕ) → images image → Is s image ⊎ Is after image
 
--- each has the server's list
-abbrev pub HoldsList : (images : List ℕ → Type 0) → List Commit → (doubt : Option (List Commit)) → Type 0
-HoldsList images commits doubt = Holds IsListed images commits doubt
-
 -- ---- the server's two disks
 
 -- Two images stand together for the longer list: the first has it, and the second has it or lacks its last commit. Then that commit's
@@ -32,16 +28,13 @@ abbrev pub HoldTogether : (one other : List ℕ) → (commits longer : List Comm
 HoldTogether one other commits longer =
     (IsListed commits one × IsListed commits other) ⊎ StandTogether one other commits longer
 
--- A disk and its backup. If nothing is in doubt, each image of either has the list; else it is so of each pair of images.
-abbrev pub HoldBoth : (ones others : List ℕ → Type 0) → List Commit → (doubt : Option (List Commit)) → Type 0
-HoldBoth ones others commits None = HoldsList ones commits None × HoldsList others commits None
-HoldBoth ones others commits (Some longer) =
-    (one other : List ℕ) → ones one → others other → HoldTogether one other commits longer
-
--- The first disk and the last. Since the last was promoted, nothing is said of the first, which was given up.
+-- The first disk and the last. If nothing is in doubt, each image of either has the server's list; else it is so of each pair of images.
+-- Since the last was promoted, nothing is said of the first, which was given up.
 abbrev pub HoldsServer : (promoted : Bool) → (firsts lasts : List ℕ → Type 0) → List Commit → (doubt : Option (List Commit)) → Type 0
-HoldsServer false firsts lasts commits doubt = HoldBoth firsts lasts commits doubt
-HoldsServer true firsts lasts commits doubt = HoldsList lasts commits doubt
+HoldsServer false firsts lasts commits None = Holds IsListed firsts commits None × Holds IsListed lasts commits None
+HoldsServer false firsts lasts commits (Some longer) =
+    (one other : List ℕ) → firsts one → lasts other → HoldTogether one other commits longer
+HoldsServer true firsts lasts commits doubt = Holds IsListed lasts commits doubt
 
 -- ---- a client's
 
@@ -69,13 +62,9 @@ state_kept m = record {
 abbrev pub IsKept : ClientState → (image : List ℕ) → Type 0
 IsKept m image = StandFor image (state_kept m)
 
--- each of the images is that
-abbrev pub HoldsClient : (images : List ℕ → Type 0) → ClientState → (doubt : Option ClientState) → Type 0
-HoldsClient images m doubt = Holds IsKept images m doubt
-
--- this disk is a client's
+-- each image of this disk is that
 abbrev pub KeepsClient : {D : Type 0} → Medium D → D → Client → Type 0
-KeepsClient medium disk client = HoldsClient (medium.may_leave disk) client.node.durable client.node.doubt
+KeepsClient medium disk client = Holds IsKept (medium.may_leave disk) client.node.durable client.node.doubt
 
 -- ---- all of them
 

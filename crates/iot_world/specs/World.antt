@@ -26,9 +26,6 @@ pub use Rattle.iot_world.specs.Disks.{AreUnarmed, Each}
 abbrev pub client_count : {D : Type 0} → World D → ℕ
 client_count world = length world.clients.items
 
-abbrev pub script_count : {D : Type 0} → World D → ℕ
-script_count world = length world.scripts.items
-
 -- the names of its scripts, in order of declaration
 abbrev pub script_names : {D : Type 0} → World D → List (List ℕ)
 script_names world = map (λ script. script.name) world.scripts.items
@@ -51,9 +48,11 @@ ClientIs {D = D} P place world = (laptop : Laptop D) → slice_get world.clients
 abbrev pub ArePlaced : {D : Type 0} → List (Laptop D) → Type 0
 ArePlaced {D = D} laptops = (place : ℕ) (laptop : Laptop D) → slice_get laptops place ≡ Some laptop → laptop.place ≡ place
 
--- what each client holds follows this list of the server's
-abbrev pub AllFollow : {D : Type 0} → List (Laptop D) → List Commit → Type 0
-AllFollow laptops commits = AllByRecursion (λ laptop. Follows (stamps_in laptop) commits) laptops
+-- a client of the machine among these scripts; what it holds follows this list of the server's
+pub record StandsIn {D : Type 0} (medium : Medium D) (scripts : List Declared) (commits : List Commit) (laptop : Laptop D)
+    (m : machines.Client) : Type 0 where
+  pub client : ClientStands medium scripts laptop m
+  pub follows : Follows (stamps_in laptop) commits
 
 -- Its nodes, with their links, are those of the machine, and its server's backup was promoted if the machine's was; what each client
 -- holds follows the server's list, no two of its scripts have the same name, and there is an empty disk for each client that may still be
@@ -61,8 +60,7 @@ AllFollow laptops commits = AllByRecursion (λ laptop. Follows (stamps_in laptop
 pub record StandsFor {D : Type 0} (medium : Medium D) (world : World D) (m : Machine) : Type 0 where
   pub server : ServerStands medium (names_in m) world.server m.server m.requests
   pub beside : IsBeside medium world.server m.promoted m.beside
-  pub clients_ : Each (ClientStands medium m.scripts) world.clients.items m.clients
-  pub follow : AllFollow world.clients.items m.server.durable
+  pub clients_ : Each (StandsIn medium m.scripts m.server.durable) world.clients.items m.clients
   pub scripts : m.scripts ≡ scripts_of world
   pub apart : AreApart m.scripts
   pub placed : ArePlaced world.clients.items
@@ -75,11 +73,7 @@ pub record IsWorldOf {D : Type 0} (medium : Medium D) (world : World D) (m : Mac
   pub stands : StandsFor medium world m
   pub sound : IsSound m
 
--- it stands for some machine
-pub record StandsForSome {D : Type 0} (medium : Medium D) (world : World D) : Type 0 where
-  pub machine : Machine
-  pub stands : StandsFor medium world machine
-
+-- so it is of some machine
 pub record IsWorldOfSome {D : Type 0} (medium : Medium D) (world : World D) : Type 0 where
   pub machine : Machine
   pub stands : IsWorldOf medium world machine
@@ -154,8 +148,7 @@ pub record SameArms {D : Type 0} (medium : Medium D) (joins : ℕ) (turns : Bool
 
 -- They are those of before, and none was armed unless that was done.
 pub record LeavesDisks {D T E : Type 0} (medium : Medium D) (arms : Bool) (joins : ℕ) (turns : Bool) (result : Result T E)
-    (old new : World D)
-    : Type 0 where
+    (old new : World D) : Type 0 where
   pub kept : KeepsDisks old new
   pub same : UnlessArmed arms result (SameArms medium joins turns old new)
 
@@ -197,10 +190,10 @@ pub record DeclaresClient {D : Type 0} (old new : World D) : Type 0 where
   pub clients : client_count new ≡ client_count old + 1
   pub scripts : new.scripts.items ≡ old.scripts.items
 
--- what is said if a client has started
-abbrev pub said_of : (on : Bool) → (name : List ℕ) → List ℕ
-said_of true name = client_line name
-said_of false name = []
+-- a client that has started is said to have
+abbrev pub SaysStarted : (on : Bool) → (name before after : List ℕ) → Type 0
+SaysStarted true name before after = after ≡ before ++ client_line name
+SaysStarted false name before after = after ≡ before
 
 -- a client that starts, or stops in that
 pub record Starts {D : Type 0} (medium : Medium D) (name : List ℕ) (old new : Laptop D) (before after : List ℕ) : Type 0 where
@@ -208,7 +201,7 @@ pub record Starts {D : Type 0} (medium : Medium D) (name : List ℕ) (old new : 
   pub between : List ℕ
   pub opens : (scripts : List Declared) → Refines (ClientStands medium scripts) OpensClient old new before between on
   pub trails : KeepsTrails old new
-  pub says : after ≡ between ++ said_of on name
+  pub says : SaysStarted on name between after
 
 -- nothing was declared
 pub record SameDeclared {D : Type 0} (old new : World D) : Type 0 where

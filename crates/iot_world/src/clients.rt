@@ -1,12 +1,12 @@
 //! A client's declaration, and its events among all.
-ghost use Rattle.std.specs.Prelude.{◌≡◌, ◌<◌, ◌++◌, true, false, OnOk};
-ghost use Rattle.iot_world.specs.Prelude.{Declares, client_part, client_line, IsUnopened, SamePlace, disk_in, KeepsDisk};
+ghost use Rattle.std.specs.Prelude.{◌≡◌, ◌<◌, ◌++◌, length, true, false, OnOk};
+ghost use Rattle.iot_world.specs.Prelude.{Declares, event_part, client_line, IsUnopened, SamePlace, disk_in, KeepsDisk};
 ghost use Rattle.iot_event.specs.declared.event.Event.TheVariants.{At};
 ghost use Rattle.iot_text.specs.Texts.{Extends};
 ghost use Rattle.iot_world.specs.Allowed.{MayBefall, stops_client};
-ghost use Rattle.iot_world.specs.Deciding.{Decides};
-ghost use Rattle.iot_world.specs.World.{StandsForSome, MakesStep, SameDeclared, LeavesDisks, DeclaresClient};
-ghost use Rattle.iot_world.specs.World.{scripts_of, script_count, client_count, Starts};
+ghost use Rattle.iot_world.specs.Deciding.{DecidesIn};
+ghost use Rattle.iot_world.specs.World.{IsWorldOfSome, MakesStep, SameDeclared, LeavesDisks, DeclaresClient};
+ghost use Rattle.iot_world.specs.World.{client_count, Starts};
 
 use crate::disks::take_first;
 use crate::nodes::{befall, relink};
@@ -26,7 +26,7 @@ impl<D: Disk> World<D> {
         name: &Name,
         out: &mut Text,
     ) -> Result<(), NoMemory>
-        requires stands { StandsForSome D.medium self.old }
+        requires stands { IsWorldOfSome D.medium self.old }
         requires few { client_count self.old < 8 }
         ensures step { OnOk result
             (MakesStep D.medium (Declares name.now) self.old self.new out.old out.new tt) }
@@ -43,6 +43,7 @@ impl<D: Disk> World<D> {
     }
 
     /// An event of the client at this place.
+    #[tactic(auto, using(crate::proofs::WorldsLaws::some_stands, crate::proofs::WorldsLaws::task_stands))]
     pub(crate) fn at(
         &mut self,
         alloc: Global,
@@ -50,12 +51,12 @@ impl<D: Disk> World<D> {
         what: &ClientEvent<u64, SharedProfile>,
         out: &mut Text,
     ) -> Result<(), NoMemory>
-        requires stands { StandsForSome D.medium self.old }
+        requires stands { IsWorldOfSome D.medium self.old }
         requires inside { client < client_count self.old }
-        requires may { MayBefall what.now (script_count self.old) }
+        requires may { MayBefall what.now (length self.old.scripts.items) }
         ensures step { OnOk result
-            (MakesStep D.medium (client_part (scripts_of self.old) client what.now) self.old self.new out.old out.new tt) }
-        ensures decided { OnOk result (Decides D.medium (At client what.now) self.old self.new out.old out.new) }
+            (MakesStep D.medium (event_part (At client what.now)) self.old self.new out.old out.new tt) }
+        ensures decided { OnOk result (DecidesIn D.medium (At client what.now) self.old self.new out.old out.new) }
         ensures counts { SameDeclared self.old self.new }
         ensures disks { LeavesDisks D.medium (stops_client what.now) 0 false result self.old self.new }
         ensures text { stops_client what.now ≡ true → Extends out.old out.new }

@@ -2,7 +2,7 @@
 ghost use Rattle.std.specs.Prelude.{◌≡◌, IfOk, OnOk};
 ghost use Rattle.iot_world.specs.Prelude.{StandsAnyhow, Logs, row_count, json_text, Machine};
 ghost use Rattle.iot_world.specs.Looks.{Tells, client_names, HasTold};
-ghost use Rattle.iot_world.specs.World.{StandsFor, StandsForSome, IsWorldOfSome, MakesStep};
+ghost use Rattle.iot_world.specs.World.{StandsFor, IsWorldOfSome, MakesStep};
 
 use crate::world::World;
 use iot_disk::Disk;
@@ -33,11 +33,10 @@ impl<D: Disk> World<D> {
     fn names(&self, alloc: Global) -> Result<Vec<Name>, NoMemory>
         ensures { IfOk result (λ names. names.items ≡ client_names self.now) }
     {
-        let mut names = Vec::new(alloc);
-        for laptop in &self.clients {
-            names.push(*laptop.name())?;
-        }
-        Ok(names)
+        self.clients
+            .iter()
+            .map(|laptop| *laptop.name())
+            .collect(alloc)
     }
 
     /// How many rows the server's tree has, or 0 if the server is down. Does not allocate.
@@ -65,8 +64,9 @@ impl<D: Disk> World<D> {
     }
 
     /// What is told of its clients.
+    #[tactic(auto, using(crate::proofs::WorldsLaws::some_stands))]
     fn told(&self, alloc: Global) -> Result<Json, NoMemory>
-        requires { StandsForSome D.medium self.now }
+        requires { IsWorldOfSome D.medium self.now }
         ensures { IfOk result
             (λ json. (m : Machine) → StandsFor D.medium self.now m → HasTold m.clients json) }
     {

@@ -78,20 +78,13 @@ pub(crate) fn relink<D: Disk>(
 pub(crate) fn arms(event: &Event) -> bool
     ensures { result ≡ arms_a_disk event.now }
 {
-    match event {
-        Event::Server(what) => is_stop(*what),
-        Event::At { client: _, what } => match what {
-            ClientEvent::Node(what) => is_stop(*what),
-            _other => false,
-        },
-        Event::StopBackup { calls: _, pick: _ } => true,
-        _other => false,
-    }
-}
-
-/// Whether a node's event does that.
-fn is_stop(what: NodeEvent) -> bool
-    ensures { result ≡ stops_node what }
-{
-    matches!(what, NodeEvent::Stop { calls: _, pick: _ })
+    matches!(
+        event,
+        Event::Server(NodeEvent::Stop { calls: _, pick: _ })
+            | Event::At {
+                client: _,
+                what: ClientEvent::Node(NodeEvent::Stop { calls: _, pick: _ })
+            }
+            | Event::StopBackup { calls: _, pick: _ }
+    )
 }

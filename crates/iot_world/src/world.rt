@@ -38,7 +38,7 @@ impl<D: Disk> World<D> {
     ghost use Rattle.iot_world.specs.World.{AreUnarmed, LeavesDisks, MakesStep, GivesBack, joined_by, disks_of, ClientIs, client_count};
     ghost use Rattle.iot_world.specs.World.{script_names};
     ghost use Rattle.iot_world.specs.World.{LendsServer, LendsClient, IsReady};
-    ghost use Rattle.iot_world.specs.Deciding.{Decides};
+    ghost use Rattle.iot_world.specs.Deciding.{Decides, DecidesIn};
 
     /// The world before any event, with a server on the first of the disks, of which the last is the backup. Each client that is declared
     /// takes the next one of the others. If one of the server's disks fails in its start, the server has stopped, which is said.
@@ -84,7 +84,7 @@ impl<D: Disk> World<D> {
     /// # Errors
     ///
     /// If memory runs out.
-    #[tactic(auto, using(crate::proofs::WorldsLaws::event_steps))]
+    #[tactic(auto, using(crate::proofs::WorldsLaws::event_steps, crate::proofs::DecidingLaws::added))]
     pub fn apply(&mut self, alloc: Global, event: &Event, out: &mut Text) -> Result<(), NoMemory>
         requires allowed { IsAllowed event.now (client_count self.old) (script_names self.old) }
         requires stands { IsWorldOfSome D.medium self.old }
@@ -162,12 +162,11 @@ impl<D: Disk> World<D> {
     }
 
     /// Does one event, and says what it does. One that arms a disk says so before that; another one is to have a text of its own.
-    #[tactic(auto, using(crate::proofs::WorldsLaws::client_steps))]
     fn act(&mut self, alloc: Global, event: &Event, out: &mut Text) -> Result<(), NoMemory>
         requires allowed { IsAllowed event.now (client_count self.old) (script_names self.old) }
         requires stands { IsWorldOfSome D.medium self.old }
         ensures step { OnOk result (MakesStep D.medium (event_part event.now) self.old self.new out.old out.new tt) }
-        ensures decided { OnOk result (Decides D.medium event.now self.old self.new out.old out.new) }
+        ensures decided { OnOk result (DecidesIn D.medium event.now self.old self.new out.old out.new) }
         ensures disks { LeavesDisks D.medium (arms_a_disk event.now) (joined_by event.now) (promotes event.now) result self.old self.new }
         ensures text { arms_a_disk event.now ≡ true → Extends out.old out.new }
         ensures declared { OnOk result ((later : List Happens) → DeclaredOn (event.now ∷ later) self.old → DeclaredOn later self.new) }

@@ -6,7 +6,7 @@ use Rattle.iot_world.proofs.DecidingLaws.{decides_promoted}
 use Rattle.iot_world.proofs.DisksLaws.{armed_leaves, nothing_leaves, server_keeps, server_leaves}
 use Rattle.iot_world.proofs.DeclaringLaws.{declares_script}
 use Rattle.iot_world.proofs.PlacesLaws.{promoted_follows}
-use Rattle.iot_world.proofs.WorldsLaws.{arms_backup, at_server, both_ok, event_grows, promotes, restarts, some_world, then_ok}
+use Rattle.iot_world.proofs.WorldsLaws.{arms_backup, at_server, both_ok, grown, promotes, restarts, then_ok}
 use Rattle.iot_world.proofs.world.World.act.Goals as goal
 
 pub returns-in_ok-push-in-Script-clause-step : goal.returns-in_ok-push-in-Script-clause-step
@@ -15,52 +15,52 @@ returns-in_ok-push-in-Script-clause-step g c =
     rw c.in-Script.is (declares_script _ _ _ _ _ _ none (search rules))
 
 pub returns-in_ok-push-in-Script-clause-disks : goal.returns-in_ok-push-in-Script-clause-disks
-returns-in_ok-push-in-Script-clause-disks g c = nothing_leaves g.D.Disk.medium _ _ _ (some_world c.requires.stands) refl refl refl
+returns-in_ok-push-in-Script-clause-disks g c = nothing_leaves g.D.Disk.medium _ _ _ c.requires.stands refl refl refl
 
 pub returns-in_err-share-in-Script-clause-disks : goal.returns-in_err-share-in-Script-clause-disks
-returns-in_err-share-in-Script-clause-disks g c = nothing_leaves g.D.Disk.medium _ _ _ (some_world c.requires.stands) refl refl refl
+returns-in_err-share-in-Script-clause-disks g c = nothing_leaves g.D.Disk.medium _ _ _ c.requires.stands refl refl refl
 
 pub returns-in_err-push-in-Script-clause-disks : goal.returns-in_err-push-in-Script-clause-disks
-returns-in_err-push-in-Script-clause-disks g c = nothing_leaves g.D.Disk.medium _ _ _ (some_world c.requires.stands) refl refl refl
+returns-in_err-push-in-Script-clause-disks g c = nothing_leaves g.D.Disk.medium _ _ _ c.requires.stands refl refl refl
 
 pub returns-in-Profile-clause-step : goal.returns-in-Profile-clause-step
 returns-in-Profile-clause-step g c = rw c.in-Profile.is (says (λ m here. sym (append-nil _)))
 
 pub returns-in-Profile-clause-disks : goal.returns-in-Profile-clause-disks
-returns-in-Profile-clause-disks g c = nothing_leaves g.D.Disk.medium _ _ _ (some_world c.requires.stands) refl refl refl
+returns-in-Profile-clause-disks g c = nothing_leaves g.D.Disk.medium _ _ _ c.requires.stands refl refl refl
 
 pub returns-in-Log-clause-disks : goal.returns-in-Log-clause-disks
-returns-in-Log-clause-disks g c = nothing_leaves g.D.Disk.medium _ _ _ (some_world c.requires.stands) refl refl refl
+returns-in-Log-clause-disks g c = nothing_leaves g.D.Disk.medium _ _ _ c.requires.stands refl refl refl
 
 pub returns-in-Show-clause-step : goal.returns-in-Show-clause-step
 returns-in-Show-clause-step g c =
-    rw (c.in-Server.is, c.in-Show.is) (then_ok _ c.show.ensures (at_server _ _ _ (λ promoted arms had. had) _ _ _
-    (event_grows g.D.Disk.medium c.args.self.now (events.Server nodes.Show))))
+    rw (c.in-Server.is, c.in-Show.is) (then_ok _ c.show.ensures (at_server _ _ _ (λ promoted arms had. had) _ _
+    (grown g.D.Disk.medium (events.Server nodes.Show) c.args.self.now _ _ _)))
 
 pub returns-in-Show-clause-disks : goal.returns-in-Show-clause-disks
-returns-in-Show-clause-disks g c = nothing_leaves g.D.Disk.medium _ _ _ (some_world c.requires.stands) refl refl refl
+returns-in-Show-clause-disks g c = nothing_leaves g.D.Disk.medium _ _ _ c.requires.stands refl refl refl
 
 pub returns-in-Stop-clause-step : goal.returns-in-Stop-clause-step
 returns-in-Stop-clause-step g c =
-    rw (c.in-Server.is, c.in-Stop.is) (then_ok _ c.arm.ensures.step (at_server _ _ _ c.arm.ensures.beside _ _ _
-    (event_grows g.D.Disk.medium c.args.self.now (events.Server (nodes.Stop c.in-Stop.calls c.in-Stop.pick)))))
+    rw (c.in-Server.is, c.in-Stop.is) (then_ok _ c.arm.ensures.step (at_server _ _ _ c.arm.ensures.beside _ _
+    (grown g.D.Disk.medium (events.Server (nodes.Stop c.in-Stop.calls c.in-Stop.pick)) c.args.self.now _ _ _)))
 
 pub returns-in-Stop-clause-disks : goal.returns-in-Stop-clause-disks
 returns-in-Stop-clause-disks g c =
     rw (c.in-Server.is, c.in-Stop.is)
-    (armed_leaves _ _ _ c.arm.result _ _ _ _ (some_world c.requires.stands) (returns-in-Stop-clause-step g c) c.arm.ensures.same)
+    (armed_leaves _ _ _ c.arm.result _ _ _ _ c.requires.stands (returns-in-Stop-clause-step g c) c.arm.ensures.same)
 
 pub returns-in-Crash-clause-step : goal.returns-in-Crash-clause-step
 returns-in-Crash-clause-step g c =
-    rw (c.in-Server.is, c.in-Crash.is) (then_ok _ c.crash.ensures.step (at_server _ _ _ c.crash.ensures.beside _ _ _
-    (event_grows g.D.Disk.medium c.args.self.now (events.Server nodes.Crash))))
+    rw (c.in-Server.is, c.in-Crash.is) (then_ok _ c.crash.ensures.step (at_server _ _ _ c.crash.ensures.beside _ _
+    (grown g.D.Disk.medium (events.Server nodes.Crash) c.args.self.now _ _ _)))
 
 pub returns-in-Crash-clause-disks : goal.returns-in-Crash-clause-disks
 returns-in-Crash-clause-disks g c =
     let it = c.crash.ensures in
     rw c.in-Server.is
     (server_leaves g.D.Disk.medium _ _ _
-    (server_keeps _ _ (some_world c.requires.stands) _ it.beside it.disk (commits_same _ _ _ it.same)))
+    (server_keeps _ _ c.requires.stands _ it.beside it.disk (commits_same _ _ _ it.same)))
 
 pub returns-in-Restart-clause-step : goal.returns-in-Restart-clause-step
 returns-in-Restart-clause-step g c =
@@ -70,18 +70,7 @@ pub returns-in-Restart-clause-disks : goal.returns-in-Restart-clause-disks
 returns-in-Restart-clause-disks g c =
     let it = c.restart.ensures in
     rw c.in-Server.is
-    (server_leaves g.D.Disk.medium _ _ _ (server_keeps _ _ (some_world c.requires.stands) _ it.beside it.disk it.records))
-
-pub promote-requires-clause-sound : goal.promote-requires-clause-sound
-promote-requires-clause-sound g c = record {
-  names = _;
-  node = c.requires.stands.machine.server;
-  requests = c.requires.stands.machine.requests;
-  stands = c.requires.stands.stands.stands.server;
-}
-
-pub promote-requires-clause-other : goal.promote-requires-clause-other
-promote-requires-clause-other g c = record { promoted = _; arms = _; beside = c.requires.stands.stands.stands.beside }
+    (server_leaves g.D.Disk.medium _ _ _ (server_keeps _ _ c.requires.stands _ it.beside it.disk it.records))
 
 pub returns-in-Promote-clause-step : goal.returns-in-Promote-clause-step
 returns-in-Promote-clause-step g c =
@@ -102,9 +91,6 @@ returns-in-Promote-clause-disks g c =
       stays = λ no. absurd cc;
     }))
 
-pub arm_backup-requires : goal.arm_backup-requires
-arm_backup-requires g c = record { promoted = _; arms = _; beside = c.requires.stands.stands.stands.beside }
-
 pub returns-in-StopBackup-clause-step : goal.returns-in-StopBackup-clause-step
 returns-in-StopBackup-clause-step g c =
     rw c.in-StopBackup.is
@@ -114,5 +100,5 @@ returns-in-StopBackup-clause-step g c =
 pub returns-in-StopBackup-clause-disks : goal.returns-in-StopBackup-clause-disks
 returns-in-StopBackup-clause-disks g c =
     rw c.in-StopBackup.is
-    (armed_leaves _ _ _ c.arm_backup.result _ _ _ _ (some_world c.requires.stands) (returns-in-StopBackup-clause-step g c)
+    (armed_leaves _ _ _ c.arm_backup.result _ _ _ _ c.requires.stands (returns-in-StopBackup-clause-step g c)
     c.arm_backup.ensures.same)

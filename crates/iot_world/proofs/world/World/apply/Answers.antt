@@ -1,8 +1,7 @@
 use Rattle.std.proofs.Common.{◌≡◌, ◌++◌, ℕ, List, [], rules}
 use Rattle.std.specs.Prelude.{Result, Ok, Err, OnOk, OnErr}
 use Rattle.iot_text.specs.Texts.{Extends}
-use Rattle.iot_text.proofs.TextsLaws.{extends_by, extends_nothing}
-use Rattle.iot_world.proofs.DecidingLaws.{decides_behind}
+use Rattle.iot_text.proofs.TextsLaws.{extends_by}
 use Rattle.iot_world.proofs.WorldsLaws.{then_ok, behind, event_steps, steps_some}
 use Rattle.iot_world.proofs.world.World.apply.Goals as goal
 
@@ -11,9 +10,6 @@ returns-then-is_empty-clause-stands g c = then_ok _ c.act.ensures.step (steps_so
 
 pub returns-then-arms-clause-stands : goal.returns-then-arms-clause-stands
 returns-then-arms-clause-stands g c = then_ok _ c.act-then-arms.ensures.step (steps_some c.args.event.now c.requires.stands)
-
-pub returns-then-is_empty-clause-text : goal.returns-then-is_empty-clause-text
-returns-then-is_empty-clause-text g c = extends_nothing c.args.out.now c.act.new.out (c.is_empty.ensures.0 c.if-is_empty.true)
 
 pub returns-clause-step : goal.returns-clause-step
 returns-clause-step g c =
@@ -28,8 +24,7 @@ returns-clause-stands g c =
 pub returns-clause-decided : goal.returns-clause-decided
 returns-clause-decided g c =
     then_ok c.append_text.result c.append_text.ensures.ok
-    (λ wrote. decides_behind g.D.Disk.medium c.args.out.now c.append_text.new.self c.act-2.new.out wrote c.args.event.now
-    c.args.self.now c.act-2.new.self (rw (← c.new-said.ensures) c.in_ok-act.ensures.decided))
+    (λ wrote. record { text = c.act-2.new.out; wrote = wrote; decides = rw (← c.new-said.ensures) c.in_ok-act.ensures.decided })
 
 extends_if : {T E : Type 0} (result : Result T E) (old new more : List ℕ) → OnOk result (new ≡ old ++ more) → OnErr result (new ≡ old)
     → Extends old new

@@ -1,27 +1,13 @@
 use Rattle.iot_world.proofs.Common.{false, refl, commits_kept}
 use Rattle.iot_world.proofs.DecidingLaws.{decides_here}
 use Rattle.iot_world.proofs.DisksLaws.{client_leaves, server_keeps, server_same}
-use Rattle.iot_world.proofs.ListLaws.{looked_up}
-use Rattle.iot_world.proofs.WorldsLaws.{node_keeps, link_keeps, stands_there, at_client, at_task, task_stands, both_ok, then_ok}
+use Rattle.iot_world.proofs.WorldsLaws.{node_keeps, link_keeps, at_client, at_task, both_ok, then_ok}
 use Rattle.iot_world.proofs.world.World.at.Goals as goal
-
-pub befall-requires : goal.befall-requires
-befall-requires g c =
-    stands_there _ _ _ c.requires.stands.stands _ _ (looked_up _ _ _ _ refl c.requires.inside c.index_mut-laptop.ensures.value)
-
-pub relink-requires : goal.relink-requires
-relink-requires g c =
-    stands_there _ _ _ c.requires.stands.stands _ _ (looked_up _ _ _ _ refl c.requires.inside c.index_mut-laptop.ensures.value)
-
-pub perform-requires-clause-stands : goal.perform-requires-clause-stands
-perform-requires-clause-stands g c =
-    task_stands _ _ _ _ _ (looked_up _ _ _ _ refl c.requires.inside c.index_mut-laptop.ensures.value) c.as_slice.ensures.value
-    c.requires.stands
 
 pub returns-in-Node-clause-step : goal.returns-in-Node-clause-step
 returns-in-Node-clause-step g c =
     rw c.in-Node.is
-    (both_ok c.befall.result c.befall.ensures.trails c.befall.ensures.step (at_client _ _ _ _ _ _ _ _ _ (node_keeps c.in-Node.event)
+    (both_ok c.befall.result c.befall.ensures.trails c.befall.ensures.step (at_client _ _ _ _ _ _ _ _ (node_keeps c.in-Node.event)
     c.requires.inside c.index_mut-laptop.ensures.value refl c.befall.ensures.place))
 
 pub returns-in-Node-clause-decided : goal.returns-in-Node-clause-decided
@@ -39,7 +25,7 @@ returns-in-Node-clause-disks g c =
 pub returns-in-Link-clause-step : goal.returns-in-Link-clause-step
 returns-in-Link-clause-step g c =
     rw c.in-Link.is
-    (then_ok _ c.relink.ensures.step (at_client _ _ _ _ _ _ _ _ _ (link_keeps c.in-Link.event) c.requires.inside
+    (then_ok _ c.relink.ensures.step (at_client _ _ _ _ _ _ _ _ (link_keeps c.in-Link.event) c.requires.inside
     c.index_mut-laptop.ensures.value refl c.relink.ensures.place c.relink.ensures.trails))
 
 pub returns-in-Link-clause-disks : goal.returns-in-Link-clause-disks

@@ -1,9 +1,10 @@
-use Rattle.iot_world.proofs.ListLaws.{looked_up}
-use Rattle.iot_world.proofs.LookingLaws.{names_more}
+use Rattle.std.proofs.Common.{rules, tests}
+use Rattle.std.proofs.lemmas.Iterator.{items_from_collect, YieldsList-from_map, YieldsList-from_slice}
+use Rattle.iot_world.specs.Prelude.{Laptop}
 use Rattle.iot_world.proofs.world.World.names.Goals as goal
 
-pub loop-laptop-preserved : goal.loop-laptop-preserved
-loop-laptop-preserved g c =
-    names_more g.D.Disk.medium _ _ _ _ _ _
-    (looked_up _ _ _ _ c.deref-laptop-items.ensures.value c.loop-laptop-test.true c.laptop-item.is) c.name.ensures
-    c.loop-laptop.invariant c.in_ok-push.ensures.items
+pub returns : goal.returns
+returns g c =
+    items_from_collect c.collect.result c.collect.ensures.ran
+    (YieldsList-from_map _ (λ (laptop : Laptop _). laptop.name) (YieldsList-from_slice c.args.self.now.clients.items cc)
+    c.map.ensures.closure (λ x r q k. search (rules, tests)))

@@ -1,13 +1,7 @@
 use Rattle.iot_world.proofs.Common.{length, ◌≤◌, subst}
 use Rattle.iot_world.proofs.LookingLaws.{tells_more, tells_all}
 use Rattle.iot_world.proofs.ListLaws.{looked_up}
-use Rattle.iot_world.proofs.WorldsLaws.{stands_there}
 use Rattle.iot_world.proofs.world.World.told.Goals as goal
-
-pub tell-requires : goal.tell-requires
-tell-requires g c =
-    stands_there _ _ _ c.requires.stands _ _
-    (looked_up _ _ _ _ c.deref-laptop-items.ensures.value c.loop-laptop-test.true c.laptop-item.is)
 
 pub loop-laptop-preserved : goal.loop-laptop-preserved
 loop-laptop-preserved g c =
