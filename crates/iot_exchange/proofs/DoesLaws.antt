@@ -1,38 +1,31 @@
 -- A client with the server: what they are that are ready, what is known of their disks, how what they do goes together, and how a task is
 -- one of the machine, also if the client is down.
-use Rattle.std.proofs.Common.{◌≡◌, ◌≤◌, ℕ, List, Option, Some, refl, sym, ap, subst, ◌∙◌, suc, ◌+◌, ◌-◌, ◌<◌, Bool, true, false, ◌++◌, None}
-use Rattle.std.proofs.Common.{inl}
-use Rattle.std.specs.Prelude.{IsSome}
-use Rattle.std.proofs.Common.{Result, Ok, Err, IsErrAnd, arith, is_some, ◌*◌, ◌&&◌, not, [], ◌∷◌, length, codes, length-append}
+use Rattle.std.proofs.Common.{inl, is_some, length-append, suc, ◌&&◌, ◌*◌, ◌≤◌}
+use Rattle.{std.specs.Prelude.IsSome, iot_disk.specs.Disk.Storing}
+use Rattle.iot_exchange.proofs.Common.{Answers, Asks, Bool, Both, Call, Client, ClientState, Compared, Compares}
+use Rattle.iot_exchange.proofs.Common.{Declared, Does, DoesFrom, EndsAlone, Err, Follows, Goes, Halt, IsAt, IsErrAnd, IsReadyWith, Item}
+use Rattle.iot_exchange.proofs.Common.{ItemsStand, KeepsDisk, KeepsDisks, KeepsTrails, Laptop, List, Medium, NoMemory, Nodes, None, Notes}
+use Rattle.iot_exchange.proofs.Common.{NotesAlone, Ok, OnConflict, Option, Over, Pair, PairStands, Repeats, Result, SamePlace, ServerNode}
+use Rattle.iot_exchange.proofs.Common.{ServerStands, Some, StepFrom, StepsTo, SyncsNext, Tells, Then, Try, UnlessNoMemory, UpStands, Yields}
+use Rattle.iot_exchange.proofs.Common.{after_acts, ap, append-nil, arith, codes, disk_in, done, either, false, has_any, is_drained, joined}
+use Rattle.iot_exchange.proofs.Common.{kept, length, line, not, pends, quiet, refl, runs, runs_is, stamps_in, state_in, subst, sym, true}
+use Rattle.iot_exchange.proofs.Common.{two, unless_over, waits_is, waits_of, yield_if, yielding, ℕ, [], ◌++◌, ◌+◌, ◌-◌, ◌<◌, ◌∙◌, ◌∷◌, ◌≡◌}
+use Rattle.iot_exchange.proofs.StepsLaws.{answers_from, asks_from, behind, refuses_from, says_from, then_from}
+use Rattle.iot_exchange.specs.{Pairs.AnyStands, Pairs.IsStandingWith, Pairs.KeepsServed, Words.SyncsAll}
+use Rattle.iot_judging.proofs.FollowingLaws.{follows_kept}
+use Rattle.iot_laptop.{proofs.NodesLaws.awake_stands, proofs.NodesLaws.is_awake, proofs.NodesLaws.is_down, specs.Alone.CertifiesAlone}
+use Rattle.iot_laptop.specs.Alone.{ComparesAlone, StartsAlone, YieldsAlone, YieldsAndNotes, certify_alone, change_by, set_class, yields_by}
+use Rattle.iot_laptop.specs.Laptops.{ClientStands, StandsAnyhow, awake, fallen, is_alive}
+use Rattle.iot_machine.{proofs.StepsLaws.at_each, specs.Calls.Gets, specs.Calls.OrSays}
+use Rattle.iot_machine.specs.{Calls.Whole, Calls.or_text, Clients.begin, Events.IfUp, Transactions.Starts, Transactions.unless_stopped}
 use Rattle.iot_server_node.proofs.BeginningLaws.{records_same, records_then}
-use Rattle.std.proofs.lemmas.List.{append-nil}
-use Rattle.iot_laptop.proofs.NodesLaws.{is_awake, is_down, awake_stands}
-use Rattle.iot_standing.proofs.StatesLaws.{runs_is, waits_is}
+use Rattle.iot_server_node.specs.{Disks.on_both, Servers.disk_of}
 use Rattle.iot_machine.specs.Clients as clients
-use Rattle.iot_disk.specs.Disk.{Storing}
 use Rattle.iot_machine.proofs.StepsLaws as calls
 use Rattle.iot_server_node.proofs.ServersLaws as servers
 use Rattle.iot_laptop.proofs.RestartLaws as restarts
-use Rattle.iot_exchange.specs.Words.{unless_over, begin, Starts, StandsAnyhow, StartsAlone, set_class, EndsAlone, Medium, Call, Try, Gets}
-use Rattle.iot_exchange.specs.Words.{Asks, Answers, Tells, Then, Goes, either, Repeats, OrSays, or_text, Declared, ClientState, Client}
-use Rattle.iot_exchange.specs.Words.{Pair, OnConflict, unless_stopped, Notes, KeepsDisk, StepsTo, Halt, NoMemory, Over, disk_of}
-use Rattle.iot_exchange.specs.Words.{ServerStands, ServerNode, awake, disk_in, SamePlace, Laptop, NotesAlone, Whole}
-use Rattle.iot_exchange.specs.Words.{is_alive, fallen, Nodes, after_acts, Item, is_drained, IfUp, line, pends, runs, SyncsAll, ItemsStand}
-use Rattle.iot_exchange.specs.Words.{on_both}
-use Rattle.iot_exchange.specs.Words.{KeepsTrails, UnlessNoMemory, state_in, stamps_in, waits_of, ClientStands, done, has_any, kept}
-use Rattle.iot_exchange.specs.Words.{Compared, Compares, Yields, yield_if, YieldsAlone, YieldsAndNotes, yields_by, yielding}
-use Rattle.iot_exchange.specs.Words.{CertifiesAlone, ComparesAlone, certify_alone, change_by}
 use Rattle.iot_laptop.specs.Alone as alone
 use Rattle.iot_machine.specs.Transactions as machine
-use Rattle.iot_judging.specs.Lists.{Follows}
-use Rattle.iot_judging.proofs.FollowingLaws.{follows_kept}
-use Rattle.iot_exchange.specs.Pairs.{Both, two, IsAt, UpStands, AnyStands, IsReadyWith, IsStandingWith, KeepsDisks, KeepsServed, PairStands}
-use Rattle.iot_machine.specs.Refining.{StepFrom}
-use Rattle.iot_exchange.specs.Pairs.{Does, DoesFrom}
-use Rattle.iot_exchange.specs.Queues.{SyncsNext}
-use Rattle.iot_machine.proofs.StepsLaws.{at_each, joined, quiet}
-use Rattle.iot_exchange.proofs.StepsLaws.{answers_from, asks_from, behind, refuses_from, says_from}
-use Rattle.iot_exchange.proofs.StepsLaws.{then_from}
 
 -- a call that leaves the client alive
 abbrev pub StepsOn : {D A : Type 0} → Medium D → List Declared → (names : List (List ℕ)) → (c : ℕ) → Call Pair A → (u v : Both D)

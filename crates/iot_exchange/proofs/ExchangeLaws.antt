@@ -1,40 +1,28 @@
 -- An exchange of a client with the server; what a client asks for, and holds if it comes; and what it knows of its transactions.
-use Rattle.std.proofs.Common.{◌≡◌, ℕ, List, ◌++◌, Option, Some, None, Result, Ok, Err, Bool, false, Vec, refl, sym, ap, subst}
-use Rattle.std.proofs.Common.{◌∙◌, []}
-use Rattle.std.proofs.Common.{◌∷◌, ◌<◌, ◌^◌, length, arith}
-use Rattle.std.specs.Prelude.{not, nat_lt}
-use Rattle.std.specs.declared.alloc.Global.{Global}
-use Rattle.iot_server_node.proofs.ServersLaws.{up_is}
-use Rattle.iot_standing.proofs.StatesLaws.{many_is, runs_is, waits_is}
-use Rattle.iot_exchange.specs.Words.{has_any, is_full, most_running}
-use Rattle.iot_exchange.specs.Words.{passage, Passage, Away, RequestLost, ReplyLost, Both as Reaches, At, its_server, break}
-use Rattle.iot_exchange.specs.Words.{Handles, exchange_by, Brings, holds, HavingAnswered, ServesBy, Served, Relinked, after_passage, Nodes}
-use Rattle.iot_exchange.specs.Words.{Item, Medium, Call, Declared, ClientState, Client, Commit, Pair, Node, Submission, Lends}
-use Rattle.iot_exchange.specs.Words.{Judges, Exchange, Holds, runs, pends, StepsTo, Halt, IsErrand, Errand, Refresh, base_of, SpellsVerdict}
-use Rattle.iot_exchange.specs.Words.{SpellsCut, said_of}
-use Rattle.iot_exchange.specs.Words.{ServerStands, IsHanded, IsNamedIn, is_up, Message, ServerNode, LaptopStands, state_in, waits_of}
-use Rattle.iot_exchange.specs.Words.{Laptop, SpellsTree, BringsTree, AsksAll, IsOneMessage, IsReply, IsWhole, Over, NoMemory}
-use Rattle.iot_exchange.specs.Words.{Stamps, TakesStamps, new_client, nodes_of, nothing_held, reply_spelling, stamps_in}
-use Rattle.iot_exchange.specs.Words.{stamps_of}
-use Rattle.iot_exchange.specs.Pairs.{Both, two, IsAt, UpStands, Query, Objects, Judgment, AsksFor, Spells, request_of, Serves, Exchanges}
-use Rattle.iot_exchange.specs.Pairs.{Asked, Came, KeepsDisks, Does, IfReplied, PairStands, answered}
-use Rattle.iot_exchange.proofs.DoesLaws.{StepsOn, in_place, OfEach, then_does, answers, by_call, notes, Unless}
-use Rattle.iot_machine.proofs.StepsLaws.{bind, gets, asks}
-use Rattle.iot_exchange.specs.Words.{Changes as ChangesAlone, KeepsDisk, Notes, SamePlace, disk_in}
-use Rattle.iot_machine.specs.Transactions.{counted}
-use Rattle.iot_kept.specs.Bringing.{brought}
-use Rattle.iot_machine.specs.Clients.{snapshot}
-use Rattle.iot_machine.proofs.WholeLaws.{whole_comes}
-use Rattle.iot_server_node.specs.Records.{state_of}
-use Rattle.iot_stamp.proofs.CutsLaws.{nothing_sent}
-use Rattle.iot_tree.specs.Tree.{IsTree}
-use Rattle.iot_tree.specs.declared.changes.Changes.{Changes}
+use Rattle.{std.specs.Prelude.nat_lt, std.specs.Prelude.not, std.specs.declared.alloc.Global.Global, iot_exchange.proofs.Common.Asked}
+use Rattle.iot_exchange.proofs.Common.{AsksAll, AsksFor, Bool, Both, Call, Came, Changes, Client, ClientState, Commit, Declared, Does}
+use Rattle.iot_exchange.proofs.Common.{Err, Errand, Follows, Grows, Halt, IsAt, IsOneMessage, IsReply, IsTree, Item, Judgment, KeepsDisk}
+use Rattle.iot_exchange.proofs.Common.{KeepsDisks, Laptop, LaptopStands, List, Medium, Message, NoMemory, Node, Nodes, None, Notes, Objects}
+use Rattle.iot_exchange.proofs.Common.{Ok, Option, Over, Pair, PairStands, Query, Refresh, Result, SamePlace, ServerNode, ServerStands}
+use Rattle.iot_exchange.proofs.Common.{Some, SpellsCut, SpellsTree, SpellsVerdict, Stamps, StepsTo, UpStands, Vec, ap, arith, base_of}
+use Rattle.iot_exchange.proofs.Common.{brought, call_one, disk_in, false, has_any, is_up, length, new_client, nodes_of, nothing_held}
+use Rattle.iot_exchange.proofs.Common.{pends, refl, reply_laws, reply_spelling, request_of, runs, runs_is, stamps_in, stamps_of}
+use Rattle.iot_exchange.proofs.Common.{state_in, state_of, subst, sym, two, waits_is, waits_of, ℕ, [], ◌++◌, ◌<◌, ◌^◌, ◌∙◌, ◌∷◌, ◌≡◌}
+use Rattle.iot_exchange.proofs.DoesLaws.{OfEach, StepsOn, Unless, answers, by_call, in_place, notes, then_does}
+use Rattle.iot_exchange.proofs.FollowingLaws.{follows_brought, follows_nothing, held_is, makes_cut, nodes_none, nothing_tree, up_stamps}
+use Rattle.iot_exchange.specs.Pairs.{Exchanges, IfReplied, Serves, Spells, answered}
+use Rattle.{iot_exchange.specs.Words.IsErrand, iot_judging.proofs.FollowingLaws.follows_on}
+use Rattle.iot_laptop.specs.{Calls.Changes as ChangesAlone, Calls.TakesStamps, Laptops.Relinked, Laptops.after_passage, Messages.BringsTree}
+use Rattle.iot_link.specs.{Links.passage, declared.passages.Passage.Passage}
+use Rattle.iot_link.specs.declared.passages.Passage.TheVariants.{Away, Both as Reaches, ReplyLost, RequestLost}
+use Rattle.iot_machine.proofs.{StepsLaws.asks, StepsLaws.bind, StepsLaws.gets, WholeLaws.whole_comes}
+use Rattle.iot_machine.specs.{Calls.At, Clients.most_running, Clients.snapshot, Machine.break, Machine.its_server}
+use Rattle.iot_machine.specs.Serving.{Judges, Lends, Submission}
+use Rattle.iot_machine.specs.Transactions.{Brings, Exchange, Handles, Holds, counted, exchange_by, holds, is_full}
+use Rattle.iot_server_node.{proofs.ServersLaws.up_is, specs.Messages.said_of, specs.Servers.HavingAnswered}
+use Rattle.iot_server_node.specs.{Servers.IsHanded, Servers.IsNamedIn, Servers.ServesBy, declared.server.Served.Served}
+use Rattle.{iot_stamp.proofs.CutsLaws.nothing_sent, iot_standing.proofs.StatesLaws.many_is, iot_tree.specs.Tree.IsWhole}
 use Rattle.iot_tree.specs.declared.want.Want.TheVariants as wanted
-use Rattle.iot_wire.proofs.MessagesLaws.{call_one}
-use Rattle.iot_wire.proofs.SpellingLaws.{reply_laws}
-use Rattle.iot_judging.specs.Lists.{Follows}
-use Rattle.iot_judging.proofs.FollowingLaws.{Grows, follows_on}
-use Rattle.iot_exchange.proofs.FollowingLaws.{follows_nothing, follows_brought, held_is, makes_cut, nodes_none, nothing_tree, up_stamps}
 
 -- ---- what the server does
 

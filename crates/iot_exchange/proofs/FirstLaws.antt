@@ -1,18 +1,35 @@
 -- The first transaction that waits, in a client and in each pair for which it stands with the server: how it is decided of, submitted and
 -- resolved. What a client is told of one is what the machine says, and one that conflicts is resolved by the script that is planned for
 -- it, on the server's whole tree.
-use Rattle.std.proofs.Common.{◌≡◌, ℕ, true, false, List, [], ◌∷◌, ◌++◌, Some, None, Result, Ok, Err, refl, sym, ap, subst, ◌∙◌, codes, ◌<◌}
-use Rattle.std.proofs.Common.{length, Vec, Global, IsErrAnd, slice_get, slice_index_or, IsSome, if◌then◌else◌}
-use Rattle.std.proofs.lemmas.Option.{same_Some, slice_get-get_or, slice_get_within}
-use Rattle.std.proofs.lemmas.List.{nil_from_length}
-use Rattle.std.specs.List.{AllByRecursion}
-use Rattle.std.specs.FinMap.{empty, entries, len-entries, len-empty}
-use Rattle.iot_limits.proofs.SpelledLaws.{no_files_are_spelled}
-use Rattle.iot_access.specs.Access.{access_of}
-use Rattle.iot_standing.proofs.StatesLaws.{HeadStands, head_stands}
-use Rattle.iot_laptop.specs.Calls.{access_in}
-use Rattle.iot_standing.specs.Kept.{access_by, access_kept}
-use Rattle.iot_tree.specs.declared.acts.Act.{Act}
+use Rattle.std.proofs.{Common.Global, Common.if◌then◌else◌, lemmas.List.nil_from_length, lemmas.Option.slice_get_within}
+use Rattle.std.specs.{FinMap.empty, FinMap.entries, FinMap.len-empty, FinMap.len-entries, List.AllByRecursion}
+use Rattle.{iot_access.specs.Access.access_of, iot_acts.specs.Turns.reads_of, iot_client.specs.Messages.way_of}
+use Rattle.iot_exchange.proofs.Common.{ACT_LIMIT, Asked, AsksAll, AsksFor, Both, Came, Client, Code, Declared, Does, DoesFrom, EndsAlone}
+use Rattle.iot_exchange.proofs.Common.{Err, Halt, HasNamed, IsCodeOf, IsErrAnd, IsReadyWith, IsSome, Item, ItemsStand, Judgment, KeepsDisk}
+use Rattle.iot_exchange.proofs.Common.{KeepsDisks, KeepsTrails, Laptop, LaptopStands, List, Medium, Message, Nodes, None, Notes, NotesAlone}
+use Rattle.iot_exchange.proofs.Common.{Objects, Ok, OnConflict, Over, Pair, Refresh, Result, SamePlace, ServerNode, Some, SpellsTree}
+use Rattle.iot_exchange.proofs.Common.{SpellsVerdict, Stage, Transaction, Try, UnlessNoMemory, UpStands, Vec, after_acts, ap, codes}
+use Rattle.iot_exchange.proofs.Common.{disk_in, false, kept, length, line, name_of, new_client, nothing_held, option_named, refl, same_Some}
+use Rattle.iot_exchange.proofs.Common.{script_named, slice_get, slice_get-get_or, slice_index_or, stamps_of, state_in, subst, sym}
+use Rattle.iot_exchange.proofs.Common.{synced_by, told_synced, told_text, transaction_name, true, two, waits_of, ℕ, [], ◌++◌, ◌<◌, ◌∙◌, ◌∷◌}
+use Rattle.iot_exchange.proofs.{Common.◌≡◌, DoesLaws.by_client, DoesLaws.each_from, DoesLaws.keeps_more, DoesLaws.notes, DoesLaws.still}
+use Rattle.iot_exchange.proofs.{ExchangeLaws.asks_whole, ExchangeLaws.lent_whole, ExchangeLaws.whole_errand, FollowingLaws.nodes_none}
+use Rattle.iot_exchange.proofs.StepsLaws.{asks_from, refuses_from, says_from, then_from}
+use Rattle.iot_exchange.specs.{Pairs.MissesAll, Queues.First, Saying.resolver_said, Words.Verdict, declared.synced.Synced.Synced as Sync}
+use Rattle.iot_exec.specs.Files.{files_of}
+use Rattle.iot_kept.specs.Changes.{HeadIs, IsByHand, IsSubmittedIn}
+use Rattle.iot_laptop.specs.Calls.{Changes, HandsIn, IsHeadPlan, Plans, access_in, acts_in, decision, decision_on, head_name, head_reads}
+use Rattle.iot_laptop.specs.{Calls.label_in, Calls.undecided_word, Messages.IsVerdict, declared.needs.Submitted.Submitted}
+use Rattle.{iot_laptop.specs.declared.needs.Undecided.Undecided, iot_limits.proofs.SpelledLaws.no_files_are_spelled}
+use Rattle.iot_machine.specs.Clients.{Plan, local_run, plan_by, plan_of, reach, resolution_of}
+use Rattle.iot_machine.specs.{Serving.Conflict, Sound.CanResolve, Sound.IsPlanned, Texts.manual_line, Texts.resolve_line}
+use Rattle.iot_machine.specs.Transactions.{IfManual, Moved, NotesAloud, Stays, Submits, Synced, Syncs, Unanswered}
+use Rattle.iot_machine.specs.Transactions.{if_manual, is_manual, item_name, resolves, submission_of, submits, sync_at, sync_head, told}
+use Rattle.{iot_queue.specs.declared.items.Resolution.Resolution, iot_server_node.specs.Servers.IsSubmission}
+use Rattle.iot_standing.{proofs.StatesLaws.HeadStands, proofs.StatesLaws.head_stands, specs.Kept.ItemStands, specs.Kept.ResolutionStands}
+use Rattle.iot_standing.specs.{Kept.StageStands, Kept.access_by, Kept.access_kept, Scripts.ItemIsNamed, States.head_option}
+use Rattle.{iot_standing.specs.States.head_plan, iot_standing.specs.States.told_change, iot_text.specs.Paths.path_cmp}
+use Rattle.iot_tree.specs.declared.{acts.Act.Act, acts.Read.Read, labels.Way.TheVariants.Certified}
 use Rattle.iot_tree.specs.declared.want.Want.TheVariants as wanted
 use Rattle.iot_tree.specs.declared.labels.OnConflict as labels
 use Rattle.iot_queue.specs.declared.items.Stage.TheVariants as kept_stages
@@ -21,28 +38,6 @@ use Rattle.iot_resolve.specs.declared.plan.Plan as plans
 use Rattle.iot_machine.specs.Clients as clients
 use Rattle.iot_machine.specs.Options as options
 use Rattle.iot_laptop.specs.declared.needs.Undecided.TheVariants as why
-use Rattle.iot_exchange.specs.Words.{Client, path_cmp, Read, Certified, reads_of, files_of, Resolution, IsSubmittedIn, way_of, Plan}
-use Rattle.iot_exchange.specs.Words.{new_client, plan_of, plan_by, local_run, CanResolve, IsPlanned, Synced, Stays, Unanswered, Submits}
-use Rattle.iot_exchange.specs.Words.{submits, resolves, sync_head, sync_at, IfManual, if_manual, is_manual, item_name, submission_of}
-use Rattle.iot_exchange.specs.Words.{NotesAloud, told, Moved, IsSubmission, decision, decision_on, undecided_word, acts_in, label_in}
-use Rattle.iot_exchange.specs.Words.{head_reads, head_option, IsHeadPlan, head_plan, Plans, ResolutionStands, StageStands, ItemStands}
-use Rattle.iot_exchange.specs.Words.{IsVerdict, ItemIsNamed, Undecided, Submitted, Nodes, ACT_LIMIT, Code, after_acts, Item, Stage, HeadIs}
-use Rattle.iot_exchange.specs.Words.{IsByHand, Medium, Try, Declared, reach, resolution_of, Pair, kept, OnConflict, line}
-use Rattle.iot_exchange.specs.Words.{transaction_name, manual_line, resolve_line, Syncs, Verdict, Conflict, Halt, Over, Transaction}
-use Rattle.iot_exchange.specs.Words.{Message, waits_of, head_name, HandsIn, AsksAll, ItemsStand, state_in, LaptopStands, name_of}
-use Rattle.iot_exchange.specs.Words.{SpellsVerdict, told_change, SpellsTree, option_named, script_named, HasNamed, Laptop, ServerNode}
-use Rattle.iot_exchange.specs.Words.{nothing_held, Refresh, stamps_of, Changes, EndsAlone, Notes, NotesAlone, KeepsDisk, KeepsTrails}
-use Rattle.iot_exchange.specs.Words.{SamePlace, UnlessNoMemory, disk_in}
-use Rattle.iot_exchange.proofs.ExchangeLaws.{asks_whole, lent_whole, whole_errand}
-use Rattle.iot_exchange.proofs.FollowingLaws.{nodes_none}
-use Rattle.iot_exchange.specs.Pairs.{Both, two, UpStands, KeepsDisks, Objects, Judgment, MissesAll, Does, DoesFrom, AsksFor, Asked, Came}
-use Rattle.iot_exchange.specs.Pairs.{IsReadyWith}
-use Rattle.iot_exchange.specs.Saying.{synced_by, told_text, told_synced, resolver_said}
-use Rattle.iot_exchange.specs.declared.synced.Synced.{Synced as Sync}
-use Rattle.iot_exchange.specs.Queues.{First}
-use Rattle.iot_standing.specs.Scripts.{IsCodeOf}
-use Rattle.iot_exchange.proofs.DoesLaws.{by_client, each_from, keeps_more, notes, still}
-use Rattle.iot_exchange.proofs.StepsLaws.{asks_from, then_from, says_from, refuses_from}
 
 -- ---- stages
 

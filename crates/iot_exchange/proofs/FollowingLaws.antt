@@ -1,32 +1,20 @@
 -- A held tree goes on following the server's list: after each request, and by what the server sends.
-use Rattle.std.proofs.Common.{◌≡◌, ◌<◌, ◌+◌, ◌^◌, ℕ, true, List, ◌++◌, length, Option, refl, sym, ap, subst, ◌∙◌, rules}
-use Rattle.iot_tree.specs.Tree.{IsTree}
-use Rattle.iot_tree.specs.declared.changes.Changes.{Changes}
-use Rattle.iot_tree.specs.Snapshots.{has}
-use Rattle.iot_tree.proofs.RowLaws.{root_map, root_rows}
-use Rattle.iot_hoard.specs.Picking.{picked}
-use Rattle.iot_held.proofs.OutcomeLaws.{cut_is as merged_is, cut_tree as merged_tree}
-use Rattle.iot_kept.specs.Bringing.{brought}
-use Rattle.iot_stamp.specs.Agreement.{Agrees, IsCutTo, IsPositive, UpTo}
-use Rattle.iot_stamp.specs.Stamps.{FarZero, pruned}
-use Rattle.iot_stamp.proofs.AgreementLaws.{agrees_pruned, far_zero_pruned, up_pruned}
-use Rattle.iot_stamp.proofs.CutsLaws.{refresh_cut, walk_cut}
-use Rattle.iot_stamp.proofs.StampsLaws.{nodes_with}
-use Rattle.iot_wire.proofs.MessagesLaws.{call_one}
-use Rattle.iot_wire.proofs.SpellingLaws.{reply_laws}
-use Rattle.iot_wire.specs.Meanings.{Spells as SpellsReply}
-use Rattle.iot_node.specs.declared.post.Post.{Post}
-use Rattle.iot_node.specs.declared.post.Post.TheVariants.{Up, Down, Between}
 use Rattle.iot_client.proofs.TrailsLaws.{nothing_trails}
-use Rattle.iot_laptop.specs.Laptops.{state_by, stamps_by}
-use Rattle.iot_laptop.specs.declared.seated.Seated.{Seated}
-use Rattle.iot_judging.proofs.ListsLaws.{list_stamped}
-use Rattle.iot_judging.specs.Lists.{state_of, Follows}
-use Rattle.iot_exchange.specs.Words.{Commit, FarDir, IsOneMessage, IsReply, Medium, Node, Nodes, ServerNode, ServerStands, SpellsCut}
-use Rattle.iot_exchange.specs.Words.{SpellsTree, Stamps, is_up, nodes_of, nothing_held, reply_spelling, root_alone, stamps_of}
-use Rattle.iot_exchange.specs.Words.{Errand, Refresh, Walk, base_of, changes_to, paths_for}
-use Rattle.iot_exchange.specs.Pairs.{Query, Objects, Judgment, request_of, Answered}
-use Rattle.iot_judging.proofs.FollowingLaws.{Grows, stays, judged_grows, lent_is}
+use Rattle.iot_exchange.proofs.Common.{Changes, Commit, Errand, Follows, Grows, IsOneMessage, IsReply, IsTree, Judgment, List, Medium, Node}
+use Rattle.iot_exchange.proofs.Common.{Nodes, Objects, Option, Query, Refresh, ServerNode, ServerStands, SpellsCut, SpellsTree, Stamps, ap}
+use Rattle.iot_exchange.proofs.Common.{base_of, brought, call_one, is_up, length, nodes_of, nothing_held, refl, reply_laws, reply_spelling}
+use Rattle.iot_exchange.proofs.Common.{request_of, rules, stamps_of, state_of, subst, sym, true, ℕ, ◌++◌, ◌+◌, ◌<◌, ◌^◌, ◌∙◌, ◌≡◌}
+use Rattle.{iot_exchange.specs.Pairs.Answered, iot_held.proofs.OutcomeLaws.cut_is as merged_is}
+use Rattle.{iot_held.proofs.OutcomeLaws.cut_tree as merged_tree, iot_hoard.specs.Picking.picked}
+use Rattle.iot_judging.proofs.{FollowingLaws.judged_grows, FollowingLaws.lent_is, FollowingLaws.stays, ListsLaws.list_stamped}
+use Rattle.{iot_judging.specs.Errands.changes_to, iot_judging.specs.Errands.paths_for, iot_laptop.specs.Laptops.stamps_by}
+use Rattle.{iot_laptop.specs.Laptops.state_by, iot_laptop.specs.declared.seated.Seated.Seated, iot_machine.specs.Serving.Walk}
+use Rattle.iot_node.specs.declared.post.Post.{Post, TheVariants.Between, TheVariants.Down, TheVariants.Up}
+use Rattle.iot_stamp.proofs.AgreementLaws.{agrees_pruned, far_zero_pruned, up_pruned}
+use Rattle.iot_stamp.proofs.{CutsLaws.refresh_cut, CutsLaws.walk_cut, StampsLaws.nodes_with}
+use Rattle.iot_stamp.specs.{Agreement.Agrees, Agreement.IsCutTo, Agreement.IsPositive, Agreement.UpTo, Stamps.FarZero, Stamps.pruned}
+use Rattle.iot_tree.{proofs.RowLaws.root_map, proofs.RowLaws.root_rows, specs.Snapshots.has, specs.Tree.root_alone}
+use Rattle.{iot_tree.specs.declared.nodes.Node.TheVariants.FarDir, iot_wire.specs.Meanings.Spells as SpellsReply}
 use Rattle.iot_wire.specs.declared.replies.Reply.TheVariants as replies
 
 -- so it is after each request

@@ -1,3 +1,4 @@
+mod Common
 pub mod StepsLaws
 pub mod FollowingLaws
 pub mod DoesLaws

@@ -1,16 +1,13 @@
 -- Scripts that are declared, by their names and by their places.
-use Rattle.std.proofs.Common.{◌≡◌, ◌<◌, ℕ, Bool, true, false, cond, List, [], ◌∷◌, length, Option, Some, None, Bor, map, option_map}
-use Rattle.std.proofs.Common.{slice_index_or, IsSome, bytes_eq, refl, sym, ap, subst, ◌∙◌}
-use Rattle.std.proofs.lemmas.List.{length-map, get_or-map}
-use Rattle.std.proofs.lemmas.Option.{slice_get-get_or}
-use Rattle.std.specs.List.{find}
+use Rattle.std.proofs.{Common.cond, Common.option_map, lemmas.List.get_or-map, lemmas.List.length-map}
+use Rattle.{std.specs.List.find, iot_event.specs.declared.event.Choice.Choice}
+use Rattle.iot_exchange.proofs.Common.{Bool, Bor, Code, DeclaredScript, HasNamed, IsCodeOf, IsSome, List}
+use Rattle.iot_exchange.proofs.Common.{None, Option, Some, ap, bytes_eq, false, length, map, option_named, refl, script_at, script_named}
+use Rattle.iot_exchange.proofs.Common.{script_of, scripts_of, slice_get-get_or, slice_index_or, subst, sym, true, ℕ, [], ◌<◌, ◌∙◌, ◌∷◌, ◌≡◌}
+use Rattle.{iot_exchange.specs.Words.IsMeant, iot_exchange.specs.Words.ResolverIsDeclared, iot_machine.specs.Events.chosen}
+use Rattle.{iot_machine.specs.Machine.no_script, iot_standing.specs.Scripts.AreApart, iot_standing.specs.Scripts.IsNamed}
 use Rattle.iot_event.specs.declared.event.Choice.TheVariants as choices
 use Rattle.iot_tree.specs.declared.labels.OnConflict as named
-use Rattle.iot_exchange.specs.Words.{Choice, no_script, ResolverIsDeclared, Code, chosen, script_at, script_named, IsNamed, HasNamed}
-use Rattle.iot_exchange.specs.Words.{option_named}
-use Rattle.iot_standing.specs.Scripts.{IsCodeOf, AreApart, IsMeant}
-use Rattle.iot_exchange.specs.Scripts.{script_of, scripts_of}
-use Rattle.iot_exchange.specs.declared.declared.DeclaredScript.{DeclaredScript}
 
 -- looking a name up among scripts
 abbrev pub found_among : List DeclaredScript → List ℕ → Option DeclaredScript

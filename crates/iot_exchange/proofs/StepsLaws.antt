@@ -1,9 +1,7 @@
 -- How calls that may end their event go together, over any world and any machine.
-use Rattle.std.proofs.Common.{◌≡◌, ℕ, List, [], ◌++◌, Option, Some, None, Result, Ok, Err, refl}
-use Rattle.iot_machine.specs.Refining.{StepFrom}
-use Rattle.iot_machine.proofs.StepsLaws.{also, at_one, joined, quiet}
-use Rattle.iot_exchange.specs.Words.{Call, Try, Asks, Answers, Tells, Then, StepsTo, Halt, NoMemory, Over}
-use Rattle.iot_exchange.specs.Pairs.{From}
+use Rattle.iot_exchange.proofs.Common.{Answers, Asks, Call, Err, Halt, List, NoMemory, None, Ok, Option}
+use Rattle.iot_exchange.proofs.Common.{Over, Result, Some, StepFrom, StepsTo, Tells, Then, Try, joined, quiet, refl, ℕ, [], ◌++◌, ◌≡◌}
+use Rattle.{iot_exchange.specs.Pairs.From, iot_machine.proofs.StepsLaws.also, iot_machine.proofs.StepsLaws.at_one}
 
 module _ {W M : Type 0} {up down : W → M → Type 0} where
   -- one that may do all that another does

@@ -1,47 +1,42 @@
 -- Transactions begin, are stepped and end as those of the machine: which one is meant, what it does, having yielded if transactions wait,
 -- and what one sees of it.
-use Rattle.std.proofs.Common.{[], ◌++◌, ◌-◌, ◌∙◌, ◌∷◌, ◌≡◌, Bool, Bor, Err, IsErrAnd, List, None, Ok, Option, Result, Some, ap, codes}
-use Rattle.std.proofs.Common.{false, length, map, not, refl, slice_get, subst, sym, true, ℕ}
-use Rattle.std.specs.Prelude.{if◌then◌else◌, leb, option_map}
-use Rattle.std.proofs.lemmas.Option.{same_Some, slice_get_past, slice_get_read}
-use Rattle.std.specs.Option.{option_copied}
-use Rattle.std.specs.Slice.{IsItemAt}
-use Rattle.std.proofs.lemmas.Bool.{eq-eqb, leb-false, leb-true}
-use Rattle.std.proofs.lemmas.List.{append-nil}
-use Rattle.iot_kept.specs.States.{Transaction, numbered}
+use Rattle.std.proofs.lemmas.{Bool.eq-eqb, Bool.leb-false, Bool.leb-true, Option.slice_get_past, Option.slice_get_read}
+use Rattle.std.specs.{Prelude.if◌then◌else◌, Prelude.leb, Slice.IsItemAt}
+use Rattle.iot_client.specs.{Calls.is_over_if_any, Calls.live_numbered, Calls.may_end_if_any, Ties.Live}
+use Rattle.iot_exchange.proofs.Common.{ACT_LIMIT, Answers, Asks, Bool, Bor, Both, Certified}
+use Rattle.iot_exchange.proofs.Common.{Client, ClientState, Closes, Compared, Compares, Declared, Does, DoesFrom, Ends, Err, Follows}
+use Rattle.iot_exchange.proofs.Common.{Goes, Halt, IsErrAnd, Item, ItemsStand, KeepsDisk, KeepsDisks, KeepsTrails, Laptop, LaptopStands}
+use Rattle.iot_exchange.proofs.Common.{List, Medium, NoMemory, Nodes, None, Notes, Ok, Option, Over, Pair, Repeats, Result, SamePlace}
+use Rattle.iot_exchange.proofs.Common.{ServerNode, Some, Stage, Stamps, Step, Steps, Tells, Then, Try, UnlessNoMemory, UpStands, Yields}
+use Rattle.iot_exchange.proofs.Common.{act_once, after_acts, again_line, ap, append-nil, begin_line, codes, compared_if, disk_in, done}
+use Rattle.iot_exchange.proofs.Common.{end_by, ended_as, false, fetched, has_any, if_runs, kept, length, line, line_of, map, next_of, not}
+use Rattle.iot_exchange.proofs.Common.{option_copied, option_map, pends, place_said, refl, same_Some, slice_get, state_in, step_line, subst}
+use Rattle.iot_exchange.proofs.Common.{sym, transaction_name, true, two, unless_over, yield_if, yielding, ℕ, [], ◌++◌, ◌-◌, ◌∙◌, ◌∷◌, ◌≡◌}
+use Rattle.iot_exchange.proofs.DoesLaws.{Certifying, OfEach, Unless, answers}
+use Rattle.iot_exchange.proofs.DoesLaws.{asks_then, by_client, certifying, each_from, goes_from, goes_then, hands_on, in_place, keeps_more}
+use Rattle.iot_exchange.proofs.DoesLaws.{keeps_then, no_memory, noted, still, tells, then_does, yields_name, yields_pair, yields_then}
+use Rattle.iot_exchange.proofs.FirstLaws.{SameStage, resolved, same_stage}
+use Rattle.iot_exchange.proofs.StepsLaws.{also_from, answers_from, asks_from, gets_from, refuses_from, says_from}
+use Rattle.{iot_exchange.specs.Queues.EndsAloud, iot_inspect.specs.declared.waiting.RunLine.RunLine}
 use Rattle.iot_judging.proofs.NextLaws.{is_at_end, is_at_limit, is_next}
-use Rattle.iot_queue.specs.declared.items.Stage.TheVariants as stages
-use Rattle.iot_machine.specs.Clients as clients
-use Rattle.iot_machine.specs.Events.{said_of}
+use Rattle.iot_kept.specs.{Memory.classes_of, Memory.transaction, Memory.transactions, States.Transaction, States.numbered}
+use Rattle.iot_laptop.specs.Calls.{IsDoneIn, IsGoneIfAny, IsNext, NextIs, TakesStep, meant_in}
+use Rattle.iot_laptop.specs.{Laptops.Reclassed, Laptops.live_in, declared.needs.Gone.Gone}
+use Rattle.iot_machine.proofs.GroupingLaws.{looked, looks, regrouped, then_also}
+use Rattle.iot_machine.specs.Clients.{Acts, AtEnd, AtLimit, Next, Running, has_number, meant, next_away, next_by, next_step, so_far}
+use Rattle.iot_machine.specs.Events.{ReadsOf, StepsAloud, place_text, run_line, running_in, said_of, says_reads, step_text}
+use Rattle.iot_machine.specs.{Machine.is_first, Recorded.items_kept, Recorded.queue_kept, Recorded.stage_kept}
+use Rattle.iot_machine.specs.Texts.{end_line, fetch_line, queue_text}
+use Rattle.iot_machine.specs.Transactions.{Differs, Ended, Refuses, Same, certifies, ended_of, ends_by, step_by, step_of, syncs_or_waits}
 use Rattle.iot_standing.proofs.RunsLaws.{RunsAs, number_found}
 use Rattle.iot_standing.proofs.StatesLaws.{ended_is, first_is, found_stands, may_end_is, none_is, none_yields, numbered_is}
-use Rattle.iot_exchange.specs.Words.{ACT_LIMIT, Acts, Answers, Asks, AtEnd, AtLimit, Client, ClientState, Closes, Compared, Compares}
-use Rattle.iot_exchange.specs.Words.{Declared, Differs, Ended, Ends, Goes, Gone, Halt, IsDoneIn, IsGoneIfAny, IsNext, IsOver, IsUnended}
-use Rattle.iot_exchange.specs.Words.{Item, ItemsStand, KeepsDisk, KeepsTrails, Laptop, LaptopStands, Live, Medium, Next, NextIs, NoMemory}
-use Rattle.iot_exchange.specs.Words.{Nodes, Notes, Over, Pair, Path, ReadsOf, Reclassed, Refuses, Repeats, RunLine, RunStand, Same}
-use Rattle.iot_exchange.specs.Words.{SamePlace, ServerNode, Stage, Stamps, Step, Steps, StepsAloud, TakesStep, Tells, Then, Try}
-use Rattle.iot_exchange.specs.Words.{UnlessNoMemory, Yields, act_once, after_acts, again_line, begin_line, certifies, classes_of}
-use Rattle.iot_exchange.specs.Words.{compared_if, disk_in, done, end_by, end_line, ended_of, ends_by, fetch_line, fetched, has_any, if_runs}
-use Rattle.iot_exchange.specs.Words.{is_first, is_over_if_any, items_kept, kept, line, live_in, live_numbered, may_end_if_any, meant}
-use Rattle.iot_exchange.specs.Words.{meant_in, next_away, next_by, next_of, next_step, pends, place_text, queue_kept, queue_text}
-use Rattle.iot_exchange.specs.Words.{run_line, running_in, says_reads, so_far, stage_kept, state_in, step_by, step_line, step_of, step_text}
-use Rattle.iot_exchange.specs.Words.{syncs_or_waits, transaction, transaction_name, transactions, unless_over, yield_if, yielding}
-use Rattle.iot_exchange.specs.Pairs.{Both, Does, DoesFrom, KeepsDisks, UpStands, two}
-use Rattle.iot_exchange.specs.Saying.{line_of, place_said}
-use Rattle.iot_exchange.proofs.DoesLaws.{Certifying, OfEach, Unless, answers, asks_then, by_client, certifying, each_from, goes_from}
-use Rattle.iot_exchange.proofs.DoesLaws.{goes_then, hands_on, in_place, keeps_more, keeps_then, no_memory, noted, still, tells}
-use Rattle.iot_exchange.proofs.DoesLaws.{then_does, yields_name, yields_pair, yields_then}
-use Rattle.iot_exchange.proofs.FirstLaws.{SameStage, resolved, same_stage}
+use Rattle.iot_standing.specs.States.{IsOver, IsUnended, RunStand}
+use Rattle.iot_tree.specs.{Tree.Path, declared.questions.Question.Question}
+use Rattle.iot_queue.specs.declared.items.Stage.TheVariants as stages
+use Rattle.iot_machine.specs.Clients as clients
 use Rattle.iot_kept.specs.declared.running.Running as kept_running
-use Rattle.iot_machine.specs.Clients.{Running, has_number}
-use Rattle.iot_exchange.proofs.StepsLaws.{also_from, answers_from, asks_from, gets_from, refuses_from, says_from}
-use Rattle.iot_tree.specs.declared.questions.Question.{Question}
-use Rattle.iot_judging.specs.Lists.{Follows}
-use Rattle.iot_laptop.specs.declared.needs.Certified.{Certified}
 use Rattle.iot_laptop.specs.declared.needs.Certified.TheVariants as told
 use Rattle.iot_machine.proofs.StepsLaws as calls
-use Rattle.iot_exchange.specs.Queues.{EndsAloud, ended_as}
-use Rattle.iot_machine.proofs.GroupingLaws.{looked, looks, regrouped, then_also}
 
 -- ---- the transactions that wait
 

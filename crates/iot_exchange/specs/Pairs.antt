@@ -1,14 +1,15 @@
 -- A client with the server, as the code has them: which pair of the machine they stand for, and how they change.
-use Rattle.std.specs.declared.alloc.Global.{Global}
-use Rattle.std.specs.Prelude.{◌+◌, ◌≡◌, ◌≤◌}
-use Rattle.iot_exchange.specs.Words.{Option, Vec, ℕ, List, None, Some, Ok, Err, Over, NoMemory, Result, slice_get, Medium, Nodes}
-use Rattle.iot_exchange.specs.Words.{Call, Try, Errand, IsErrand}
-use Rattle.iot_exchange.specs.Words.{Declared, Client, Commit, Pair, Node, Submission, Verdict, Lends, Judges, Exchange, KeepsDisk, StepsTo}
-use Rattle.iot_exchange.specs.Words.{Halt, SpellsVerdict, SpellsCut, KeepsRecords, ServerStands, IsHanded, IsNamedIn, disk_of, Message}
-use Rattle.iot_exchange.specs.Words.{ServerNode, Stands, LaptopStands, ClientStands, disk_in, Laptop, Stamps, nodes_of, is_up, stamps_in}
-use Rattle.iot_exchange.specs.Words.{stamps_of, true, on_both, KeepsBeside}
-use Rattle.iot_machine.specs.Refining.{StepFrom}
-use Rattle.iot_judging.specs.Lists.{Follows}
+use Rattle.std.specs.Prelude.{None, Option, Vec, slice_get, ◌+◌, ◌≡◌, ◌≤◌}
+use Rattle.{std.specs.declared.alloc.Global.Global, iot_disk.specs.Disk.Medium, iot_exchange.specs.Words.Client}
+use Rattle.iot_exchange.specs.Words.{Declared, Err, Errand, Halt, IsErrand, KeepsDisk, Laptop, LaptopStands, List, Nodes, Ok, Pair, Result}
+use Rattle.iot_exchange.specs.Words.{ServerNode, ServerStands, Some, Stands, StepsTo, Try, Verdict, disk_in, is_up, stamps_in, true, ℕ}
+use Rattle.iot_judging.specs.{Lists.Follows, Verdicts.SpellsVerdict}
+use Rattle.{iot_laptop.specs.Laptops.ClientStands, iot_machine.specs.Calls.Call, iot_machine.specs.Machine.Commit}
+use Rattle.iot_machine.specs.{Nodes.Node, Refining.StepFrom, Serving.Judges, Serving.Lends, Serving.Submission, Transactions.Exchange}
+use Rattle.iot_node.specs.declared.halt.Halt.TheVariants.{NoMemory, Over}
+use Rattle.iot_server_node.specs.{Disks.on_both, Messages.SpellsCut, Records.KeepsRecords, Servers.IsHanded, Servers.IsNamedIn}
+use Rattle.iot_server_node.specs.{Servers.KeepsBeside, Servers.disk_of, Servers.stamps_of, declared.message.Message.Message}
+use Rattle.iot_stamp.specs.Stamps.{Stamps, nodes_of}
 
 -- ---- a client and the server
 

@@ -1,8 +1,10 @@
 -- How the transactions that wait are synced, and what is said and done of one that has ended.
 use Rattle.std.specs.Prelude.{◌∷◌, ◌≡◌}
-use Rattle.iot_exchange.specs.Words.{Answers, Asks, Bool, Ended, Goes, Gone, Item, Laptop, List, Pair, Refreshes, Some, SyncsAll, Then}
-use Rattle.iot_exchange.specs.Words.{Transaction, Try, either, end_line, is_drained, name_of, pends, state_in, sync_if, syncs_or_waits}
-use Rattle.iot_machine.specs.Calls.{Says}
+use Rattle.iot_exchange.specs.Words.{Bool, Goes, Laptop, List, Pair, Refreshes, Some, SyncsAll, Try, name_of, state_in}
+use Rattle.iot_laptop.specs.declared.needs.Gone.{Gone}
+use Rattle.iot_machine.specs.{Calls.Answers, Calls.Asks, Calls.Says, Calls.Then, Calls.either, Events.is_drained, Texts.end_line}
+use Rattle.iot_machine.specs.Transactions.{Ended, pends, sync_if, syncs_or_waits}
+use Rattle.{iot_node.specs.declared.lines.Transaction.Transaction, iot_queue.specs.declared.items.Item.Item}
 
 -- the first that waits has this name, and this is so of it
 pub record First {D : Type 0} (Is : Item → Type 0) (laptop : Laptop D) (t : Transaction) : Type 0 where

@@ -1,14 +1,13 @@
 -- How a sync went, and what is said of how far a transaction is and of how it is resolved.
-use Rattle.iot_tree.specs.declared.labels.OnConflict.{OnConflict}
-use Rattle.iot_resolve.specs.declared.plan.Plan.{Plan}
+use Rattle.std.specs.Prelude.{if◌then◌else◌, leb, ◌++◌}
+use Rattle.iot_exchange.specs.Words.{Bool, Err, Halt, List, Ok, Result, Verdict, codes, false, length, true, ℕ, []}
+use Rattle.iot_exchange.specs.declared.synced.Synced.{Synced, TheVariants.Moved, TheVariants.Stays, TheVariants.Unanswered}
+use Rattle.{iot_inspect.specs.declared.waiting.RunLine.RunLine, iot_kept.specs.declared.running.Running.Running}
+use Rattle.iot_machine.specs.{Serving.Conflict, Serving.Settled, Texts.abort_line, Texts.conflict_line, Texts.manual_line}
+use Rattle.{iot_machine.specs.Texts.settled_line, iot_resolve.specs.declared.plan.Plan.Plan}
+use Rattle.iot_tree.specs.declared.labels.OnConflict.{OnConflict, TheVariants.Abort, TheVariants.Manual}
+use Rattle.iot_tree.specs.declared.limits.TheConstants.{ACT_LIMIT}
 use Rattle.iot_machine.specs.Transactions as machine
-use Rattle.std.specs.Prelude.{◌++◌, length, if◌then◌else◌}
-use Rattle.iot_inspect.specs.declared.waiting.RunLine.{RunLine}
-use Rattle.iot_kept.specs.declared.running.Running.{Running}
-use Rattle.iot_exchange.specs.Words.{codes, Ok, Err, Abort, Manual, abort_line, ℕ, Bool, true, false, List, [], leb}
-use Rattle.iot_exchange.specs.Words.{Result, ACT_LIMIT, Verdict, Settled, Conflict, settled_line, conflict_line, manual_line, Halt}
-use Rattle.iot_exchange.specs.declared.synced.Synced.{Synced}
-use Rattle.iot_exchange.specs.declared.synced.Synced.TheVariants.{Moved, Stays, Unanswered}
 
 -- how a sync went, as the machine says it
 abbrev pub synced_of : Synced → machine.Synced

@@ -1,9 +1,10 @@
 -- Scripts as they were declared, what a client may be asked to do with them, and for what it asks the server.
-use Rattle.iot_event.specs.declared.event.Task.TheVariants as tasks
 use Rattle.std.specs.Prelude.{◌<◌, ◌≤◌}
-use Rattle.iot_exchange.specs.Words.{Declared, Errand, IsProfile, IsWalkLimit, List, Profile, Refresh, ResolverIsDeclared, Task, Walk, map}
-use Rattle.iot_exchange.specs.Words.{ℕ}
+use Rattle.iot_event.specs.declared.event.Task.{Task}
+use Rattle.iot_exchange.specs.Words.{Declared, Errand, IsProfile, IsWalkLimit, List, Refresh, ResolverIsDeclared, map, ℕ}
 use Rattle.iot_exchange.specs.declared.declared.DeclaredScript.{DeclaredScript}
+use Rattle.{iot_machine.specs.Serving.Walk, iot_tree.specs.Profiles.Profile}
+use Rattle.iot_event.specs.declared.event.Task.TheVariants as tasks
 use Rattle.iot_exchange.specs.declared.errand.Errand as code
 use Rattle.iot_exchange.specs.declared.errand.Errand.TheVariants as errands
 

@@ -1,7 +1,7 @@
 //! Decisions by hand, of which the server knows nothing.
 ghost use Rattle.std.specs.Prelude.{◌≡◌};
-ghost use Rattle.iot_exchange.specs.Words.{Repairs, Discards, List, Declared, Stands, IsNamed, ServerNode};
-ghost use Rattle.iot_exchange.specs.Pairs.{two, IsReady, Does};
+ghost use Rattle.iot_exchange.specs.{Pairs.Does, Pairs.IsReady, Pairs.two, Words.Declared, Words.List, Words.ServerNode, Words.Stands};
+ghost use Rattle.{iot_machine.specs.Events.Discards, iot_machine.specs.Events.Repairs, iot_standing.specs.Scripts.IsNamed};
 
 use crate::texts::{say_of, say_repair};
 use iot_disk::Disk;

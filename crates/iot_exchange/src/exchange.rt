@@ -1,9 +1,9 @@
 //! A message to the server over a client's link, and its reply.
-ghost use Rattle.std.specs.Prelude.{◌≡◌, ◌++◌};
-ghost use Rattle.iot_exchange.specs.Words.{IsSomeRequest, ServerIsSound, ℕ, List, true, false, IfOk, OnOk, Declared};
-ghost use Rattle.iot_exchange.specs.Words.{state_in, said_of, ServerStands, is_up};
-ghost use Rattle.iot_exchange.specs.Pairs.{two, IsReady, KeepsDisks, KeepsServed, Query, AsksFor, Spells, request_of, Serves, MissesAll};
-ghost use Rattle.iot_exchange.specs.Pairs.{LendsIfReplied, Replied};
+ghost use Rattle.std.specs.Prelude.{◌++◌, ◌≡◌};
+ghost use Rattle.iot_exchange.specs.Pairs.{AsksFor, IsReady, KeepsDisks};
+ghost use Rattle.iot_exchange.specs.Pairs.{KeepsServed, LendsIfReplied, MissesAll, Query, Replied, Serves, Spells, request_of, two};
+ghost use Rattle.iot_exchange.specs.Words.{Declared, IfOk, List, OnOk, ServerStands, false, is_up, state_in, true, ℕ};
+ghost use Rattle.iot_server_node.specs.{Messages.IsSomeRequest, Messages.said_of, Servers.ServerIsSound};
 
 use iot_disk::Disk;
 use iot_laptop::Laptop;

@@ -1,10 +1,8 @@
 //! Looking in at a client's transactions.
-ghost use Rattle.std.specs.Prelude.{◌-◌, ◌≡◌, ◌≤◌, ◌++◌};
-ghost use Rattle.iot_exchange.specs.Words.{List, IfOk, OnOk, map, Stands, LaptopStands, Declared, ReadsOf, running_in, Client};
-ghost use Rattle.iot_exchange.specs.Words.{queue_kept, queue_text};
-ghost use Rattle.iot_exchange.specs.Words.{ServerNode};
-ghost use Rattle.iot_exchange.specs.Saying.{line_of};
-ghost use Rattle.iot_exchange.specs.Pairs.{two, IsReady, Does};
+ghost use Rattle.std.specs.Prelude.{◌++◌, ◌-◌, ◌≡◌, ◌≤◌};
+ghost use Rattle.iot_exchange.specs.{Pairs.Does, Pairs.IsReady, Pairs.two, Saying.line_of};
+ghost use Rattle.iot_exchange.specs.Words.{Client, Declared, IfOk, LaptopStands, List, OnOk, ServerNode, Stands, map};
+ghost use Rattle.iot_machine.specs.{Events.ReadsOf, Events.running_in, Recorded.queue_kept, Texts.queue_text};
 
 use iot_client::Running;
 use iot_disk::Disk;

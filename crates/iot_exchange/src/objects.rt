@@ -1,11 +1,12 @@
 //! What a client asks of the server: objects, over its link.
 ghost use Rattle.std.specs.Prelude.{◌≡◌, ◌≤◌};
-ghost use Rattle.iot_exchange.specs.Words.{IsFirst, Hoards, Takes, List, [], IfOk, IsRefresh, stamps_in, state_in, Declared};
-ghost use Rattle.iot_exchange.specs.Words.{hold, fetch, Nodes, OnOk, KeepsDisk, disk_in, SamePlace, Stands, TakesStamps};
-ghost use Rattle.iot_exchange.specs.Words.{Refreshes, Holds, Want as Wanted, Walks, IsProfile, IsWalkLimit, IsErrand, Refresh, base_of};
-ghost use Rattle.iot_exchange.specs.Words.{BringsTree, SpellsTree, Changes};
-ghost use Rattle.iot_exchange.specs.Scripts.{errand_of, MayAsk};
-ghost use Rattle.iot_exchange.specs.Pairs.{two, IsReady, Does};
+ghost use Rattle.iot_exchange.specs.{Pairs.Does, Pairs.IsReady, Pairs.two, Scripts.MayAsk, Scripts.errand_of};
+ghost use Rattle.iot_exchange.specs.Words.{Declared, IfOk, IsErrand, IsProfile, IsWalkLimit};
+ghost use Rattle.iot_exchange.specs.Words.{KeepsDisk, List, Nodes, OnOk, Refresh, Refreshes, Stands, disk_in, stamps_in, state_in, []};
+ghost use Rattle.{iot_judging.specs.Errands.base_of, iot_laptop.specs.Calls.Changes};
+ghost use Rattle.iot_laptop.specs.{Calls.TakesStamps, Laptops.IsFirst, Laptops.SamePlace, Messages.BringsTree, Messages.SpellsTree};
+ghost use Rattle.iot_machine.specs.{Clients.fetch, Clients.hold, Events.Hoards, Events.Walks, Transactions.Holds, Transactions.Takes};
+ghost use Rattle.{iot_tree.specs.declared.want.Want.Want as Wanted, iot_wire.specs.Meanings.IsRefresh};
 
 use crate::errand::Errand;
 use crate::exchange::{exchange, miss};

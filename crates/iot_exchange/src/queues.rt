@@ -1,9 +1,8 @@
 //! The transactions of a client that wait for the server.
-ghost use Rattle.iot_exchange.specs.Words.{Drains, List, Some, Declared, HandsIn, AsksAll, Syncs, SyncsAll};
-ghost use Rattle.iot_exchange.specs.Scripts.{scripts_of};
-ghost use Rattle.iot_exchange.specs.Pairs.{two, IsReady, IsReadyWith, Does};
-ghost use Rattle.iot_exchange.specs.Queues.{First, DrainsQuietly};
-ghost use Rattle.iot_exchange.specs.Saying.{synced_by};
+ghost use Rattle.iot_exchange.specs.{Pairs.Does, Pairs.IsReady, Pairs.IsReadyWith, Pairs.two, Queues.DrainsQuietly, Queues.First};
+ghost use Rattle.iot_exchange.specs.{Saying.synced_by, Scripts.scripts_of, Words.Declared, Words.List, Words.Some, Words.SyncsAll};
+ghost use Rattle.iot_laptop.specs.Calls.{AsksAll, HandsIn};
+ghost use Rattle.iot_machine.specs.{Events.Drains, Transactions.Syncs};
 
 use crate::declared::DeclaredScript;
 use crate::exchange::{exchange, miss};

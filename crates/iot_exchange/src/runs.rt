@@ -1,8 +1,7 @@
 //! A whole run of a script, as a transaction.
-ghost use Rattle.iot_exchange.specs.Words.{Begins, Declared, Goes, OnConflict as Chosen, Runs, runs_through};
-ghost use Rattle.iot_exchange.specs.Scripts.{script_of, scripts_of};
-ghost use Rattle.iot_standing.specs.Scripts.{Means, IsMeant};
-ghost use Rattle.iot_exchange.specs.Pairs.{two, IsReadyWith, Does};
+ghost use Rattle.iot_exchange.specs.{Pairs.Does, Pairs.IsReadyWith, Pairs.two, Scripts.script_of, Scripts.scripts_of};
+ghost use Rattle.iot_exchange.specs.Words.{Begins, Chosen, Declared, Goes, IsMeant, Means};
+ghost use Rattle.iot_machine.specs.Events.{Runs, runs_through};
 
 use crate::declared::DeclaredScript;
 use crate::queues::sync_all;

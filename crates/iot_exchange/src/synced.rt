@@ -1,7 +1,7 @@
 //! How a sync went.
 ghost use Rattle.std.specs.Prelude.{◌≡◌};
-ghost use Rattle.iot_exchange.specs.Words.{verdict_of, moves};
-ghost use Rattle.iot_exchange.specs.Saying.{synced_of, told_synced};
+ghost use Rattle.iot_exchange.specs.{Saying.synced_of, Saying.told_synced, Words.verdict_of};
+ghost use Rattle.iot_machine.specs.Transactions.{moves};
 
 use iot_laptop::{Told, Verdict};
 use iot_tree::OnConflict;

@@ -1,9 +1,10 @@
 //! What a client is asked to do.
 ghost use Rattle.std.specs.Prelude.{◌≡◌};
-ghost use Rattle.iot_exchange.specs.Words.{task_part, ℕ, List, OnOk, length, ResolverIsDeclared, option_named, chosen, IfUp, StepsTo};
-ghost use Rattle.iot_exchange.specs.Scripts.{scripts_of, MayDo};
-ghost use Rattle.iot_standing.specs.Scripts.{AreApart};
-ghost use Rattle.iot_exchange.specs.Pairs.{two, AnyStands, IsStandingWith, IsReadyWith, KeepsDisks, Does};
+ghost use Rattle.iot_exchange.specs.Pairs.{AnyStands, Does, IsReadyWith, IsStandingWith, KeepsDisks, two};
+ghost use Rattle.iot_exchange.specs.Scripts.{MayDo, scripts_of};
+ghost use Rattle.iot_exchange.specs.Words.{List, OnOk, ResolverIsDeclared, StepsTo, length, ℕ};
+ghost use Rattle.iot_machine.specs.Events.{IfUp, chosen, task_part};
+ghost use Rattle.iot_standing.specs.Scripts.{AreApart, option_named};
 
 use crate::decisions::{discard, repair};
 use crate::declared::DeclaredScript;

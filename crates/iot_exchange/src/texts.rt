@@ -1,8 +1,9 @@
 //! The lines of a client's transactions.
-ghost use Rattle.std.specs.Prelude.{◌≡◌, ◌++◌, ◌∷◌, codes, decimal};
-ghost use Rattle.iot_exchange.specs.Words.{pending_line, OnOk, name_of, verdict_of, hoard_line, refresh_line, walk_line, begin_line};
-ghost use Rattle.iot_exchange.specs.Words.{fetch_line, step_line, line, question_text, resolve_line, repair_line};
+ghost use Rattle.std.specs.Prelude.{decimal, ◌++◌, ◌∷◌, ◌≡◌};
 ghost use Rattle.iot_exchange.specs.Saying.{place_said, resolver_said, told_text};
+ghost use Rattle.iot_exchange.specs.Words.{OnOk, codes, name_of, verdict_of};
+ghost use Rattle.iot_machine.specs.Texts.{begin_line, fetch_line, hoard_line};
+ghost use Rattle.iot_machine.specs.Texts.{line, pending_line, question_text, refresh_line, repair_line, resolve_line, step_line, walk_line};
 
 use iot_hoard::size_of;
 use iot_inspect::put_question;

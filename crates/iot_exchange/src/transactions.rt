@@ -1,9 +1,8 @@
 //! What a client does with its transactions: they begin, are stepped and end.
-ghost use Rattle.iot_exchange.specs.Words.{Begins, BeginsAloud, Declared, Ends, List, OnConflict as Chosen, Repeats, Steps, StepsAloud};
-ghost use Rattle.iot_exchange.specs.Scripts.{script_of, scripts_of};
-ghost use Rattle.iot_standing.specs.Scripts.{IsMeant, Means};
-ghost use Rattle.iot_exchange.specs.Pairs.{two, IsReady, IsReadyWith, Does};
-ghost use Rattle.iot_exchange.specs.Queues.{EndsAloud, ended_as};
+ghost use Rattle.iot_exchange.specs.Pairs.{Does, IsReady, IsReadyWith, two};
+ghost use Rattle.iot_exchange.specs.{Queues.EndsAloud, Queues.ended_as, Scripts.script_of, Scripts.scripts_of};
+ghost use Rattle.iot_exchange.specs.Words.{Begins, Chosen, Declared, IsMeant, List, Means};
+ghost use Rattle.iot_machine.specs.{Calls.Repeats, Events.BeginsAloud, Events.StepsAloud, Transactions.Ends, Transactions.Steps};
 
 use crate::declared::DeclaredScript;
 use crate::errand::Errand;

@@ -1,54 +1,38 @@
 -- What the server's replies bring and say, and what a call of a laptop that appends a record makes of the client of the machine: its
 -- change, or a stop in it; and what a held tree has of a server's stamps through that.
-use Rattle.std.proofs.lemmas.Result.{IfOk-weaker, IfOk-at_ok}
-use Rattle.std.proofs.Common.{◌≡◌, ℕ, true, false, List, [], ◌∷◌, Option, Some, None, Result, Ok, Err, inl, inr, refl, sym, ap, subst, ◌∙◌}
-use Rattle.std.proofs.Common.{rules, Bool, if◌then◌else◌}
-use Rattle.std.specs.Prelude.{IfOk, OnOk, IsErrOf, IfErr}
-use Rattle.std.proofs.lemmas.Option.{same_Some}
 use Rattle.iot_access.specs.Access.{access_of}
-use Rattle.iot_laptop.specs.Below.{Nodes, IsTree, IsSpelledTree, IsScript, Resolved, State, CanFollow, after, Notes, Live, IsTied, state_of}
-use Rattle.iot_laptop.specs.Below.{live_of, disk_of, records_of, Client, Call, StandWith, next as next_count, place_of, ClientFault}
-use Rattle.iot_laptop.specs.Below.{Stopped, Medium, Declared, ClientState, leave, repair, Node, Appends, Writes, KeepsDisk, Appended}
-use Rattle.iot_laptop.specs.Below.{UpStands, StepsFrom, Answered, is_on, StepsTo, Halt, NoMemory, Over, Post, Up, Between, no_text}
-use Rattle.iot_laptop.specs.Below.{SpellsVerdict, Laptop, Seated, Read, Resolution, Code, IsHeadsRun, verdict_change, Plan, reach}
-use Rattle.iot_laptop.specs.Below.{resolution_of, Item, reads_of, head_of, Stamps, nodes_of, stamps_of, brought, nothing_held}
-use Rattle.iot_client.specs.Messages.{ReadsObjects, ReadsNoted, noted_in, objects_in, Makes, no_tree, no_changes}
-use Rattle.iot_views.specs.Rules.{IsTreeOfRows}
-use Rattle.iot_kept.specs.Bringing.{base_for, brought_for, bringing}
-use Rattle.iot_kept.specs.declared.bringing.Purpose.{Purpose}
-use Rattle.iot_kept.proofs.BringingLaws.{base_spelled, brought_spelled}
-use Rattle.iot_kept.proofs.SyncedLaws.{synced_spelled}
-use Rattle.iot_tree.specs.declared.changes.Changes.{Changes as RowChanges}
-use Rattle.iot_laptop.specs.Laptops.{stamps_in, LaptopStands, ClientStands, live_by, live_in, records_in, records_by, disk_by, IsLent}
-use Rattle.iot_laptop.specs.Laptops.{state_in, KeepsTrails, is_alive, stamps_by}
-use Rattle.iot_standing.specs.States.{StateStands, head_option, told_change}
-use Rattle.iot_client.proofs.TrailsLaws.{same_changes, nothing_trails}
-use Rattle.iot_machine.proofs.PossiblyLaws.{possibly_sure, appends_possibly}
-use Rattle.iot_node.proofs.PostsLaws.{same_counts}
-use Rattle.iot_machine.proofs.StepsLaws.{bind, answers}
-use Rattle.iot_changes.specs.declared.changes.Change.{Change}
-use Rattle.iot_changes.specs.declared.changes.Change.TheVariants.{Repaired, Left}
-use Rattle.iot_client.specs.Calls.{CutsOff, Brings, CutsOffByTree, CutsOffByVerdict, CutsOffByRun, Resolves, CutsOffRerun, Reruns}
-use Rattle.iot_client.specs.Calls.{RefusesReply}
-use Rattle.iot_client.specs.Faults.{CountsFault, MayFail}
-use Rattle.iot_machine.specs.Nodes.{changed}
-use Rattle.iot_limits.proofs.TreesLaws.{tree_spelled}
+use Rattle.iot_changes.specs.declared.changes.Change.{Change, TheVariants.Left, TheVariants.Repaired, TheVariants.Resolved}
+use Rattle.iot_client.proofs.TrailsLaws.{nothing_trails, same_changes}
+use Rattle.iot_client.specs.Calls.{Brings, CutsOffByRun, CutsOffByTree, CutsOffByVerdict, CutsOffRerun, IsHeadsRun, RefusesReply, Reruns}
+use Rattle.iot_client.specs.{Calls.Resolves, Calls.verdict_change, Faults.CountsFault}
+use Rattle.iot_client.specs.Messages.{Makes, ReadsNoted, ReadsObjects, no_changes, no_tree, noted_in, objects_in}
 use Rattle.iot_client.specs.declared.noted.Noted.{Noted as NotedIn}
-use Rattle.iot_wire.specs.declared.replies.Reply.TheVariants.{Committed, Already, Conflict}
-use Rattle.iot_laptop.specs.Alone.{NotesAlone}
-use Rattle.iot_laptop.specs.Calls.{appended, done, Before, EndsAlone, GoesOn, Changes, Repairs, Plans, TakesVerdict, head_reads, acts_in}
-use Rattle.iot_laptop.specs.Calls.{TakesStamps, UnlessNoMemory}
-use Rattle.iot_standing.specs.Kept.{StateKept}
-use Rattle.iot_laptop.specs.Messages.{SpellsTree}
-use Rattle.iot_standing.specs.Scripts.{AreNamed}
-use Rattle.iot_laptop.specs.Seats.{seating, Besides, besides, none_besides}
-use Rattle.iot_standing.proofs.KeptLaws.{KeptLive, left_live, noted_as, repaired_live, resolved_live, stands_so, told_live}
-use Rattle.iot_standing.proofs.RunsLaws.{lives_then}
-use Rattle.iot_laptop.proofs.NodesLaws.{Posted, not_both, up_stands, awake_at, fallen_at, at_node}
-use Rattle.iot_kept.proofs.TrailsLaws.{IsOwn}
-use Rattle.iot_laptop.proofs.SeatsLaws.{besides_again, fresh_lent}
-use Rattle.iot_stamp.specs.Trails.{KeepsTrail, Trails}
-use Rattle.iot_stamp.proofs.TrailsLaws.{none_trails, same_trails, same_stamps}
+use Rattle.iot_kept.proofs.{BringingLaws.base_spelled, BringingLaws.brought_spelled, SyncedLaws.synced_spelled, TrailsLaws.IsOwn}
+use Rattle.iot_kept.specs.Bringing.{base_for, bringing, brought_for}
+use Rattle.{iot_kept.specs.declared.bringing.Purpose.Purpose, iot_laptop.proofs.Common.AreNamed}
+use Rattle.iot_laptop.proofs.Common.{Before, Besides, Between, Bool, Call, CanFollow, Client, ClientFault, ClientStands, ClientState}
+use Rattle.iot_laptop.proofs.Common.{Code, CutsOff, Declared, EndsAlone, Err, Halt, IfErr, IfOk, IfOk-at_ok, IfOk-weaker, IsErrOf, IsLent}
+use Rattle.iot_laptop.proofs.Common.{IsScript, IsTied, IsTree, Item, KeepsDisk, KeepsTrails, KeptLive, Laptop, LaptopStands, List, Live}
+use Rattle.iot_laptop.proofs.Common.{MayFail, Medium, NoMemory, Node, None, Notes, NotesAlone, Ok, OnOk, Option, Over, Post, Result, Seated}
+use Rattle.iot_laptop.proofs.Common.{Some, StandWith, State, StateKept, StateStands, StepsFrom, StepsTo, Stopped, UnlessNoMemory, Up}
+use Rattle.iot_laptop.proofs.Common.{UpStands, Writes, acts_in, after, answers, ap, besides, bind, disk_by, disk_of, done, false, head_of}
+use Rattle.iot_laptop.proofs.Common.{if◌then◌else◌, inl, inr, is_alive, is_on, live_by, live_in, live_of, lives_then, no_text, none_besides}
+use Rattle.iot_laptop.proofs.Common.{place_of, possibly_sure, reads_of, records_of, refl, rules, same_Some, same_counts, seating}
+use Rattle.iot_laptop.proofs.Common.{stamps_by, stamps_in, stamps_of, stands_so, state_in, state_of, subst, sym, true, ℕ, [], ◌∙◌, ◌∷◌, ◌≡◌}
+use Rattle.iot_laptop.proofs.NodesLaws.{Posted, at_node, awake_at, fallen_at, not_both, up_stands}
+use Rattle.iot_laptop.{proofs.SeatsLaws.besides_again, proofs.SeatsLaws.fresh_lent, specs.Below.Nodes, specs.Below.Plan, specs.Below.Read}
+use Rattle.iot_laptop.specs.{Below.SpellsVerdict, Below.Stamps, Below.brought, Below.nothing_held, Calls.Changes, Calls.GoesOn, Calls.Plans}
+use Rattle.iot_laptop.specs.{Calls.Repairs, Calls.TakesStamps, Calls.TakesVerdict, Calls.appended, Calls.head_reads, Laptops.records_by}
+use Rattle.{iot_laptop.specs.Laptops.records_in, iot_laptop.specs.Messages.SpellsTree, iot_limits.proofs.TreesLaws.tree_spelled}
+use Rattle.{iot_limits.specs.Spelled.IsSpelledTree, iot_machine.proofs.PossiblyLaws.appends_possibly}
+use Rattle.iot_machine.specs.{Clients.leave, Clients.reach, Clients.repair, Clients.resolution_of, Nodes.changed, Stops.Appends}
+use Rattle.{iot_node.specs.Keeping.Appended, iot_node.specs.Posts.Answered, iot_queue.specs.declared.items.Resolution.Resolution}
+use Rattle.{iot_slots.specs.Cells.next as next_count, iot_stamp.proofs.TrailsLaws.none_trails, iot_stamp.proofs.TrailsLaws.same_stamps}
+use Rattle.iot_stamp.{proofs.TrailsLaws.same_trails, specs.Stamps.nodes_of, specs.Trails.KeepsTrail, specs.Trails.Trails}
+use Rattle.iot_standing.proofs.KeptLaws.{left_live, noted_as, repaired_live, resolved_live, told_live}
+use Rattle.iot_standing.specs.States.{head_option, told_change}
+use Rattle.{iot_tree.specs.declared.changes.Changes.Changes as RowChanges, iot_views.specs.Rules.IsTreeOfRows}
+use Rattle.iot_wire.specs.declared.replies.Reply.TheVariants.{Already, Committed, Conflict}
 use Rattle.iot_disk.specs.declared.faults.JournalFault.TheVariants as append
 use Rattle.iot_machine.specs.Machine as machine
 use Rattle.iot_machine.specs.Clients as clients

@@ -1,33 +1,20 @@
 -- A restart cuts off what ran, one after the other.
-use Rattle.std.proofs.lemmas.Result.{IfOk-weaker, IfOk-at_ok}
-use Rattle.std.proofs.Common.{◌≡◌, ℕ, true, false, List, [], ◌∷◌, ◌++◌, length, Option, Some, None, Result, Ok, Err}
-use Rattle.std.proofs.Common.{refl, sym, ap, subst, ◌∙◌, arith, rules}
-use Rattle.std.specs.Prelude.{IfOk, OnOk, IsErrOf}
-use Rattle.std.proofs.lemmas.Option.{same_Some}
-use Rattle.iot_changes.specs.declared.changes.Change.TheVariants.{Cut}
+use Rattle.{iot_changes.specs.declared.changes.Change.TheVariants.Cut, iot_client.proofs.TrailsLaws.cut_trails}
 use Rattle.iot_client.specs.Calls.{Cuts, CutsIfAny, CutsOffCut}
-use Rattle.iot_kept.specs.Changes as records
-use Rattle.iot_laptop.specs.Below.{CanFollow, Client, ClientFault, ClientState, Declared, Halt, Laptop, Medium, NoMemory}
-use Rattle.iot_laptop.specs.Below.{Over, Post, Seated, State, Stopped, Transaction, Up, UpStands, Writes, cut, disk_of}
-use Rattle.iot_laptop.specs.Below.{no_text, records_of, state_of, transaction_name}
-use Rattle.iot_laptop.specs.Calls.{Back, Before, CutsAll, CutsFirst, Returned, RunFewer, UnlessNoMemory, done}
-use Rattle.iot_laptop.specs.Laptops.{ClientStands, KeepsTrails, awake, state_by, state_in}
-use Rattle.iot_laptop.specs.Seats.{seating}
-use Rattle.iot_machine.specs.Events.{cuts_off}
-use Rattle.iot_machine.specs.Texts.{cut_line}
-use Rattle.iot_machine.proofs.StepsLaws.{at_each, at_one, bind, joined, nothing, quiet, says}
+use Rattle.iot_laptop.proofs.CallsLaws.{Called, answered_so, goes_at, goes_trails, halts_at}
+use Rattle.iot_laptop.proofs.Common.{AreNamed, Before, CanFollow, Client, ClientFault, ClientStands, ClientState, CutsAll, Declared, Err}
+use Rattle.iot_laptop.proofs.Common.{Halt, IfOk, IfOk-at_ok, IfOk-weaker, IsErrOf, KeepsTrails, Laptop, List, Medium, NoMemory, None, Ok}
+use Rattle.iot_laptop.proofs.Common.{OnOk, Option, Over, Part, Post, Result, Returned, RunKept, Seated, Some, State, StateKept, StepFrom}
+use Rattle.iot_laptop.proofs.Common.{Stopped, Then, Transaction, UnlessNoMemory, Up, UpStands, Writes, after, ap, arith, at_each, at_one}
+use Rattle.iot_laptop.proofs.Common.{awake, bind, cut_line, disk_of, done, false, goes_on, joined, length, no_text, quiet, records_of, refl}
+use Rattle.iot_laptop.proofs.Common.{rules, same_Some, seating, state_by, state_in, state_of, subst, sym, transaction_name, true, ℕ, []}
+use Rattle.iot_laptop.proofs.{Common.◌++◌, Common.◌∙◌, Common.◌∷◌, Common.◌≡◌, NodesLaws.awake_at, NodesLaws.none_up}
+use Rattle.iot_laptop.specs.Calls.{Back, CutsFirst, RunFewer}
+use Rattle.iot_machine.{proofs.StepsLaws.nothing, proofs.StepsLaws.says, specs.Calls.Says, specs.Clients.cut, specs.Events.cuts_off}
 use Rattle.iot_standing.proofs.KeptLaws.{cut_kept, cut_named, idle_is, longest}
-use Rattle.iot_standing.specs.Kept.{RunKept, StateKept}
+use Rattle.iot_kept.specs.Changes as records
 use Rattle.iot_machine.specs.Clients as clients
 use Rattle.iot_machine.specs.Machine as machine
-use Rattle.iot_laptop.proofs.CallsLaws.{Called, answered_so, goes_at, halts_at}
-use Rattle.iot_laptop.proofs.CallsLaws.{goes_trails}
-use Rattle.iot_client.proofs.TrailsLaws.{cut_trails}
-use Rattle.iot_machine.specs.Calls.{Part, Says, Then, goes_on}
-use Rattle.iot_machine.specs.Refining.{StepFrom}
-use Rattle.iot_laptop.specs.Below.{after}
-use Rattle.iot_standing.specs.Scripts.{AreNamed}
-use Rattle.iot_laptop.proofs.NodesLaws.{awake_at, none_up}
 
 -- what is left of a cut once it is known how many acts are kept
 abbrev cuts_it : clients.Running → (acts : ℕ) → (later : List clients.Running) → Part machine.Client

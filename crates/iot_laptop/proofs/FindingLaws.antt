@@ -1,18 +1,11 @@
 -- What a laptop finds among the transactions that run; and that a call that nothing refuses fails as a disk or the memory does.
-use Rattle.std.proofs.Common.{◌≡◌, ◌==◌, ◌||◌, ℕ, Bool, true, false, cond, List, [], ◌∷◌, find, length, map, Some, option_map, refl, ap}
-use Rattle.std.proofs.Common.{◌<◌, Option, None, Result, Ok, Err}
-use Rattle.std.specs.Prelude.{leb, IfErr, IsSome}
-use Rattle.iot_client.specs.Calls.{is_over_if_any, Refuses, busy, idle, unended}
-use Rattle.iot_kept.specs.Memory.{classes_of, transaction, transactions}
-use Rattle.iot_kept.specs.States.{numbered, has_number}
-use Rattle.iot_kept.specs.declared.running.Running.{Running}
-use Rattle.iot_tree.specs.declared.limits.TheConstants.{ACT_LIMIT}
-use Rattle.iot_laptop.specs.Below.{Live, Medium, Laptop, Transaction, live_numbered, may_end_if_any, Client, ClientFault}
-use Rattle.iot_laptop.specs.Laptops.{Stands, live_in, state_in, IsFirstOf}
-use Rattle.iot_standing.proofs.StatesLaws.{found_stands}
-use Rattle.std.proofs.lemmas.Bool.{lt-ltb}
-use Rattle.iot_client.specs.Faults.{MayFail}
-use Rattle.iot_machine.specs.Clients.{most_running}
+use Rattle.std.proofs.{Common.cond, Common.◌<◌, Common.◌||◌, lemmas.Bool.lt-ltb}
+use Rattle.iot_client.specs.Calls.{Refuses, busy, idle, is_over_if_any, unended}
+use Rattle.iot_kept.specs.{Memory.classes_of, Memory.transactions, States.has_number, declared.running.Running.Running}
+use Rattle.iot_laptop.proofs.Common.{ACT_LIMIT, Bool, Client, ClientFault, Err, IfErr, IsFirstOf, Laptop, List, Live, MayFail, Medium, None}
+use Rattle.iot_laptop.proofs.Common.{Ok, Option, Result, Some, Stands, Transaction, ap, false, find, leb, length, live_in, live_numbered}
+use Rattle.iot_laptop.proofs.Common.{map, may_end_if_any, numbered, option_map, refl, state_in, transaction, true, ℕ, [], ◌==◌, ◌∷◌, ◌≡◌}
+use Rattle.{iot_laptop.specs.Below.IsSome, iot_laptop.specs.Below.most_running, iot_standing.proofs.StatesLaws.found_stands}
 
 abbrev pub has_tid : ℕ → Running → Bool
 has_tid number it = it.tid == number

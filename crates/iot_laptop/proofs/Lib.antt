@@ -1,3 +1,4 @@
+mod Common
 pub mod CallsLaws
 pub mod CuttingLaws
 pub mod FindingLaws

@@ -1,20 +1,12 @@
 -- What is known of a client by its node, also after a call that changes nothing but classes.
-use Rattle.std.proofs.Common.{◌≡◌, ℕ, Bool, true, false, List, [], refl, sym, ap, subst, ◌∙◌, rules, map, Some}
-use Rattle.iot_laptop.specs.Below.{Client, Medium, Declared, ClientState, Call, At, Node, Possibly, PostStands, UpStands, StepsFrom}
-use Rattle.iot_laptop.specs.Below.{StepsTo, Post, Up, Down, Between, no_text, Laptop, Seated, IsTied, State, counts_on, is_on, live_of}
-use Rattle.iot_laptop.specs.Below.{second_class, state_of}
-use Rattle.iot_machine.proofs.PossiblyLaws.{possibly_sure}
-use Rattle.iot_node.proofs.PostsLaws.{on_is}
-use Rattle.iot_standing.specs.Kept.{StateKept}
-use Rattle.iot_laptop.specs.Laptops.{LaptopStands, FallenStands, ClientStands, awake, fallen, Stands, StandsAnyhow, IsLent, state_by}
-use Rattle.iot_laptop.specs.Laptops.{live_by, is_alive, state_in, live_in, NodeStands, Reclassed, all_second, disk_by, stamps_by}
-use Rattle.iot_standing.specs.States.{StateStands}
-use Rattle.iot_standing.specs.Scripts.{AreNamed}
-use Rattle.iot_laptop.specs.Seats.{begun_of, seating}
-use Rattle.iot_laptop.proofs.SeatsLaws.{known_again, none_known}
-use Rattle.iot_standing.proofs.KeptLaws.{idle_runs, stands_with}
-use Rattle.iot_standing.proofs.RunsLaws.{are_begun, live_with, lives_all_second, lives_then}
-use Rattle.iot_client.specs.Calls.{ChangesClasses}
+use Rattle.iot_laptop.proofs.Common.{AreNamed, At, Between, Bool, Call, ChangesClasses, Client, ClientStands, ClientState, Declared, Down}
+use Rattle.iot_laptop.proofs.Common.{FallenStands, IsLent, IsTied, Laptop, LaptopStands, List, Medium, Node, NodeStands, Possibly, Post}
+use Rattle.iot_laptop.proofs.Common.{PostStands, Reclassed, Seated, Some, Stands, StandsAnyhow, State, StateKept, StateStands, StepsFrom}
+use Rattle.iot_laptop.proofs.Common.{StepsTo, Up, UpStands, all_second, ap, awake, begun_of, counts_on, disk_by, fallen, false, is_alive}
+use Rattle.iot_laptop.proofs.Common.{is_on, live_by, live_in, live_of, live_with, lives_then, map, no_text, on_is, possibly_sure, refl}
+use Rattle.iot_laptop.proofs.Common.{rules, seating, second_class, stamps_by, state_by, state_in, state_of, subst, sym, true, ℕ, [], ◌∙◌}
+use Rattle.iot_laptop.proofs.{Common.◌≡◌, SeatsLaws.known_again, SeatsLaws.none_known}
+use Rattle.iot_standing.proofs.{KeptLaws.idle_runs, KeptLaws.stands_with, RunsLaws.are_begun, RunsLaws.lives_all_second}
 use Rattle.iot_machine.specs.Machine as machine
 
 pub not_both : true ≡ false → ⊥

@@ -1,51 +1,32 @@
 -- What befalls a laptop: its link, and a start, a crash, a restart and an armed disk of its node.
-use Rattle.std.proofs.lemmas.Result.{on_ok_weaker}
-use Rattle.std.proofs.Common.{◌≡◌, ◌≢◌, ◌⊎◌, ℕ, Bool, true, false, List, [], ◌++◌, Option, None, Result, inl, inr, refl}
-use Rattle.std.proofs.Common.{sym, ap, subst, ◌∙◌, codes, arith, rules}
-use Rattle.std.specs.Prelude.{OnOk}
-use Rattle.std.proofs.lemmas.List.{append-nil}
-use Rattle.std.proofs.lemmas.Option.{same_Some}
-use Rattle.iot_kept.specs.Rules.{header}
+use Rattle.std.proofs.Common.{codes, ◌≢◌, ◌⊎◌}
+use Rattle.{std.proofs.lemmas.Result.on_ok_weaker, iot_count.specs.Counts.Rose}
+use Rattle.{iot_disk.specs.Disk.Storing, iot_disk.specs.declared.disk.Pick.Pick, iot_judging.proofs.SpelledTreesLaws.far_root_spelled}
+use Rattle.{iot_kept.specs.Rules.header, iot_kept.specs.States.opening, iot_laptop.proofs.CallsLaws.keeps_post}
+use Rattle.iot_laptop.proofs.Common.{AreNamed, Asks, At, Before, Besides, Bool, ClientStands, ClientState}
+use Rattle.iot_laptop.proofs.Common.{CutsAll, Declared, Down, FallenStands, IsClientImage, IsTree, KeepsDisk, Laptop, LaptopStands}
+use Rattle.iot_laptop.proofs.Common.{List, Medium, Node, NodeStands, None, OnOk, Option, Part, Possibly, Post, PostStands, Reclassed}
+use Rattle.iot_laptop.proofs.Common.{Result, Returned, RunKept, Seated, Stands, StandsAnyhow, StepFrom, Then, all_second, ap, append-nil}
+use Rattle.iot_laptop.proofs.Common.{arith, asks, at_each, at_one, awake, begun_of, bind, connected, counts_on, disk_by, does, fallen}
+use Rattle.iot_laptop.proofs.Common.{false, goes_on, inl, inr, is_alive, is_on, joined, live_in, live_with, lives_then, no_text, on_is}
+use Rattle.iot_laptop.proofs.Common.{quiet, refl, rules, same_Some, seating, state_by, state_in, subst, sym, true, ℕ, [], ◌++◌, ◌∙◌, ◌≡◌}
+use Rattle.iot_laptop.proofs.NodesLaws.{Posted, alive_stands, at_node, awake_stands, fallen_at, fallen_stands}
+use Rattle.iot_laptop.proofs.NodesLaws.{kept_up, known_up, may_be_named, node_stands, none_up, not_both, same_link, same_name, stands_at}
+use Rattle.iot_laptop.{proofs.SeatsLaws.begun_all, proofs.SeatsLaws.besides_by, proofs.SeatsLaws.none_runs, specs.Alone.OpensClient}
+use Rattle.iot_laptop.specs.{Below.IsEmpty, Calls.Came, Laptops.IsCutLink, Laptops.IsUnopened, Laptops.Relinked, Laptops.after_passage}
+use Rattle.{iot_laptop.specs.Laptops.unopened_laptop, iot_link.specs.Links.LinkState, iot_link.specs.Links.after_exchange}
+use Rattle.iot_link.specs.declared.passages.Passage.{Passage, TheVariants.Away, TheVariants.Both}
+use Rattle.iot_machine.proofs.PossiblyLaws.{SameStates, comes_within, crashes_within, opens_states, possibly_same}
+use Rattle.iot_machine.{proofs.StepsLaws.says_this, specs.Calls.Does, specs.Clients.new_client}
+use Rattle.iot_machine.specs.Events.{ArmsClient, CrashesClient, CutsOff, Disconnects, RestartsClient}
+use Rattle.iot_machine.specs.{Nodes.unopened, Refining.Refines, Stops.ArmsDisk, Stops.ComesBack, Stops.Crashes, Stops.OpensNode}
+use Rattle.iot_machine.specs.Texts.{disconnect_line, line, stopped_line}
+use Rattle.iot_node.specs.{Posts.CameIf, Posts.IsStanding, Posts.Ready, Posts.words_of, declared.comeback.Comeback.TheVariants.Restart}
 use Rattle.iot_slots.specs.Decoding.{Decoded, NotStarted, decoded, state_of as encoded_in}
-use Rattle.iot_laptop.specs.Below.{IsTree, opening}
-use Rattle.iot_disk.specs.Disk.{Storing}
-use Rattle.iot_laptop.specs.Below.{Medium, At, Declared, ClientState}
-use Rattle.iot_laptop.specs.Below.{new_client, Node, unopened, Refines, Possibly, OpensNode, stopped_line, KeepsDisk}
-use Rattle.iot_laptop.specs.Below.{counts_on, IsEmpty, is_on, PostStands, CameIf, Post, Down}
-use Rattle.iot_laptop.specs.Below.{no_text, Laptop, Seated, Passage, FarDir}
-use Rattle.iot_link.specs.Links.{LinkState, after_exchange, connected}
-use Rattle.iot_machine.proofs.StepsLaws.{at_each, at_one, bind, asks, does, joined, quiet, says_this}
-use Rattle.iot_machine.specs.Refining.{StepFrom}
-use Rattle.iot_count.specs.Counts.{Rose}
-use Rattle.iot_machine.specs.Calls.{Asks, Does, Part, Then, goes_on}
-use Rattle.iot_machine.specs.Stops.{ComesBack, Crashes, ArmsDisk}
-use Rattle.iot_machine.specs.Texts.{line, disconnect_line}
-use Rattle.iot_machine.proofs.PossiblyLaws.{SameStates, comes_within, possibly_same, opens_states, crashes_within}
-use Rattle.iot_node.specs.Posts.{IsStanding, Ready, words_of}
-use Rattle.iot_node.specs.declared.comeback.Comeback.TheVariants.{Restart}
-use Rattle.iot_machine.specs.Events.{CutsOff, RestartsClient, Disconnects, CrashesClient, ArmsClient}
-use Rattle.iot_link.specs.declared.passages.Passage.TheVariants.{Away, Both}
-use Rattle.iot_node.proofs.PostsLaws.{on_is}
-use Rattle.iot_disk.specs.declared.disk.Pick.{Pick}
-use Rattle.iot_tree.proofs.RowLaws.{root_rows, root_map}
-use Rattle.iot_judging.proofs.SpelledTreesLaws.{far_root_spelled}
+use Rattle.iot_tree.{proofs.RowLaws.root_map, proofs.RowLaws.root_rows, specs.declared.nodes.Node.TheVariants.FarDir}
 use Rattle.iot_machine.specs.Clients as clients
 use Rattle.iot_machine.specs.Machine as machine
 use Rattle.iot_link.specs.Links as links
-use Rattle.iot_laptop.specs.Calls.{Before, Returned, Came, CutsAll}
-use Rattle.iot_standing.specs.Kept.{RunKept}
-use Rattle.iot_laptop.specs.Laptops.{LaptopStands, FallenStands, ClientStands, awake, StandsAnyhow, is_alive, disk_by, all_second}
-use Rattle.iot_laptop.specs.Laptops.{state_in, live_in, state_by, fallen, Stands, Relinked, Reclassed, IsCutLink, after_passage, IsUnopened}
-use Rattle.iot_laptop.specs.Laptops.{NodeStands, unopened_laptop}
-use Rattle.iot_standing.specs.Scripts.{AreNamed}
-use Rattle.iot_laptop.specs.Seats.{seating, Besides, begun_of, IsClientImage}
-use Rattle.iot_standing.proofs.RunsLaws.{live_with, lives_then}
-use Rattle.iot_laptop.proofs.CallsLaws.{keeps_post}
-use Rattle.iot_laptop.proofs.NodesLaws.{Posted, not_both, kept_up, known_up, none_up, node_stands, fallen_stands, awake_stands, fallen_at}
-use Rattle.iot_laptop.proofs.NodesLaws.{alive_stands, at_node, stands_at}
-use Rattle.iot_laptop.proofs.NodesLaws.{same_name, same_link, may_be_named}
-use Rattle.iot_laptop.proofs.SeatsLaws.{besides_by, begun_all, none_runs}
-use Rattle.iot_laptop.specs.Alone.{OpensClient}
 
 module _ {D : Type 0} (medium : Medium D) (laptop : Laptop D) where
   -- ---- another link

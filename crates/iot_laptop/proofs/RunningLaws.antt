@@ -1,47 +1,31 @@
 -- A call on a transaction that runs first makes it yield; and how one begins, makes a step, and ends.
-use Rattle.std.proofs.lemmas.Result.{IfOk-at_ok, IfOk-weaker}
-use Rattle.std.proofs.Common.{◌≡◌, ◌+◌, ◌==◌, ℕ, Bool, true, false, List, [], ◌∷◌, ◌++◌, Some, None, Result, Ok, Err, refl, sym, ap, subst}
-use Rattle.std.proofs.Common.{◌∙◌, Option, arith, rules}
-use Rattle.std.specs.List.{list_any}
-use Rattle.std.specs.Prelude.{IfOk, OnOk, IsErrOf, option_map}
-use Rattle.std.proofs.lemmas.List.{append-nil}
-use Rattle.std.proofs.lemmas.Option.{same_Some}
-use Rattle.iot_changes.specs.declared.changes.Change.TheVariants.{Begun, Acted, Ended, Again}
-use Rattle.iot_client.specs.Calls.{CutsOff, yielded, with_live, yielded_to, ChangesClasses, CutsOffNext, IsSoOfRun, CanAct, CutsOffEnd}
-use Rattle.iot_client.specs.Calls.{joining, starting, EndIs, Differs, lives_after, other_lives}
-use Rattle.iot_kept.proofs.SyncedLaws.{synced_numbered}
-use Rattle.iot_kept.specs.States.{numbered}
-use Rattle.iot_laptop.specs.Alone.{StartsAlone, set_class, yields_by, yielding, YieldsAlone, NotesAlone, ComparesAlone, change_by}
-use Rattle.iot_laptop.specs.Alone.{notes_found, CertifiesAlone}
-use Rattle.iot_laptop.specs.Below.{Client, ClientFault, Declared, Halt, IsScript, Item, Laptop, Live, Medium, CanFollow, NoMemory, Notes}
-use Rattle.iot_laptop.specs.Below.{Over, State, StepsTo, Stopped, Transaction, after, begin, disk_of, live_numbered, live_of, records_of}
-use Rattle.iot_laptop.specs.Below.{second_class, state_of, Act, Code, Step, StepIs, act_once, next_acts, stamps_of, ClientState, Try}
-use Rattle.iot_laptop.specs.Below.{acts_output, may_end_if_any, transaction_name, view}
-use Rattle.iot_laptop.specs.Calls.{Begins, NextIs, TakesStep, UnlessNoMemory, done, acts_by, certified_if, compared_if, waits_after}
-use Rattle.iot_laptop.specs.Calls.{EndsAlone, IsDoneIn, IsGoneIfAny}
-use Rattle.iot_machine.specs.Calls.{Asks, Answers, Then, unless_over}
-use Rattle.iot_laptop.specs.Laptops.{LaptopStands, ClientStands, IsFirstOf, KeepsTrails, Reclassed, state_by, stamps_by, state_in}
-use Rattle.iot_laptop.specs.Laptops.{stamps_in, live_in}
-use Rattle.iot_machine.specs.Machine.{classed}
-use Rattle.iot_machine.specs.Transactions.{has_any, Compared, Same}
-use Rattle.iot_machine.proofs.StepsLaws.{answers, asks, at_each, at_one, bind, does, gets, joined, quiet}
-use Rattle.iot_node.specs.Steps.{EndsBy}
-use Rattle.iot_standing.proofs.KeptLaws.{KeptLive, begun_live, stands_so, yielded_live, yields, acted_live, again_live, ended_live}
-use Rattle.iot_standing.proofs.KeptLaws.{ended_waits, same_reads, parts as reads_part}
-use Rattle.iot_standing.proofs.StatesLaws.{one_is, acts_is, next_is, may_end_is}
-use Rattle.iot_standing.specs.States.{RunningStands, next_as, waits_of}
-use Rattle.iot_tree.specs.declared.labels.OnConflict.{OnConflict as OnConflictNamed}
-use Rattle.iot_laptop.proofs.CallsLaws.{Called, Known, answered_so, from_known, known_was, notes_at, notes_halt}
-use Rattle.iot_machine.specs.Clients.{next_step}
-use Rattle.iot_standing.proofs.RunsLaws.{SoOf, so_of, kept_as, kept_both, number_found, own_number}
-use Rattle.iot_laptop.proofs.NodesLaws.{reclasses}
-use Rattle.iot_laptop.proofs.CallsLaws.{goes_trails}
-use Rattle.iot_client.specs.declared.ended.Ended.{Ended as EndedIs}
-use Rattle.iot_acts.specs.Traces.{ActsHold}
-use Rattle.iot_kept.specs.Changes.{IsSomeOf, RunIs}
-use Rattle.iot_machine.specs.Refining.{StepFrom}
-use Rattle.iot_standing.specs.Kept.{RunningKept, StateKept}
-use Rattle.iot_tree.specs.declared.questions.Question.{Question}
+use Rattle.{std.proofs.Common.◌+◌, std.specs.List.list_any, iot_acts.specs.Traces.ActsHold}
+use Rattle.iot_changes.specs.declared.changes.Change.TheVariants.{Acted, Again, Begun, Ended}
+use Rattle.iot_client.specs.Calls.{CanAct, CutsOffEnd, CutsOffNext, Differs, EndIs, IsSoOfRun}
+use Rattle.iot_client.specs.Calls.{StepIs, joining, lives_after, next_acts, other_lives, starting, with_live, yielded, yielded_to}
+use Rattle.iot_client.specs.declared.{ended.Ended.Ended as EndedIs, steps.Step.Step}
+use Rattle.iot_kept.{proofs.SyncedLaws.synced_numbered, specs.Changes.IsSomeOf, specs.Changes.RunIs, specs.States.view}
+use Rattle.iot_laptop.proofs.CallsLaws.{Called, Known, answered_so, from_known, goes_trails, known_was, notes_at, notes_halt}
+use Rattle.iot_laptop.proofs.Common.{Asks, Bool, CanFollow, ChangesClasses, Client, ClientFault, ClientStands, ClientState, Code, CutsOff}
+use Rattle.iot_laptop.proofs.Common.{Declared, EndsAlone, Err, Halt, IfOk, IfOk-at_ok, IfOk-weaker, IsErrOf, IsFirstOf, IsScript, Item}
+use Rattle.iot_laptop.proofs.Common.{KeepsTrails, KeptLive, Laptop, LaptopStands, List, Live, Medium, NoMemory, None, Notes, NotesAlone}
+use Rattle.iot_laptop.proofs.Common.{Ok, OnOk, Option, Over, Reclassed, Result, Some, State, StateKept, StepFrom, StepsTo, Stopped, Then}
+use Rattle.iot_laptop.proofs.Common.{Transaction, UnlessNoMemory, acts_output, after, answers, ap, append-nil, arith, asks, at_each, at_one}
+use Rattle.iot_laptop.proofs.Common.{bind, disk_of, does, done, false, joined, live_in, live_numbered, live_of, may_end_if_any, numbered}
+use Rattle.iot_laptop.proofs.Common.{quiet, records_of, refl, rules, same_Some, second_class, stamps_by, stamps_in, stamps_of, stands_so}
+use Rattle.iot_laptop.proofs.Common.{state_by, state_in, state_of, subst, sym, transaction_name, true, ℕ, [], ◌++◌, ◌==◌, ◌∙◌, ◌∷◌, ◌≡◌}
+use Rattle.iot_laptop.{proofs.NodesLaws.reclasses, specs.Alone.CertifiesAlone}
+use Rattle.iot_laptop.specs.Alone.{ComparesAlone, StartsAlone, YieldsAlone, change_by, notes_found, set_class, yielding, yields_by}
+use Rattle.iot_laptop.specs.Below.{Compared, Same, Try, has_any, option_map, waits_of}
+use Rattle.iot_laptop.specs.Calls.{Begins, IsDoneIn, IsGoneIfAny, NextIs, TakesStep, acts_by, certified_if, compared_if, waits_after}
+use Rattle.iot_machine.proofs.StepsLaws.{gets}
+use Rattle.iot_machine.specs.{Calls.Answers, Calls.unless_over, Clients.act_once, Clients.begin, Clients.next_step, Machine.classed}
+use Rattle.{iot_node.specs.Steps.EndsBy, iot_standing.proofs.KeptLaws.acted_live, iot_standing.proofs.KeptLaws.again_live}
+use Rattle.iot_standing.proofs.KeptLaws.{begun_live, ended_live, ended_waits, parts as reads_part, same_reads, yielded_live, yields}
+use Rattle.iot_standing.proofs.RunsLaws.{SoOf, kept_as, kept_both, number_found, own_number, so_of}
+use Rattle.iot_standing.proofs.StatesLaws.{acts_is, may_end_is, next_is, one_is}
+use Rattle.iot_standing.specs.{Kept.RunningKept, States.RunningStands, States.next_as}
+use Rattle.iot_tree.specs.declared.{acts.Act.Act, labels.OnConflict.OnConflict as OnConflictNamed, questions.Question.Question}
 use Rattle.iot_machine.specs.Clients as clients
 use Rattle.iot_machine.specs.Machine as machine
 use Rattle.iot_client.proofs.TrailsLaws as client

@@ -1,30 +1,20 @@
 -- What a client is as the keeper of a node: how it starts, and what its disk holds.
-use Rattle.std.proofs.Common.{◌≡◌, ℕ, Bool, true, false, List, [], ◌∷◌, is_some, refl, sym, ap, subst, ◌∙◌, inl, inr, rules}
-use Rattle.std.proofs.lemmas.Bool.{cond-true, cond_both}
-use Rattle.std.specs.List.{list_all}
+use Rattle.std.{proofs.Common.is_some, proofs.lemmas.Bool.cond-true, proofs.lemmas.Bool.cond_both, specs.List.list_all}
 use Rattle.iot_client.specs.Ties.{AreFound, AreRuns, classes_in}
-use Rattle.iot_standing.proofs.RunsLaws.{live_with, none_live}
+use Rattle.{iot_disk.specs.declared.faults.StartFault.StartFault, iot_kept.proofs.SyncedLaws.synced_stands}
+use Rattle.iot_kept.specs.{Rules.rules as kept_rules, Standing.EachStands, Standing.StandFor, Standing.records_in}
+use Rattle.iot_laptop.proofs.Common.{Besides, Bool, Client, ClientState, IsClientImage, IsTied, List, Live, Medium, None, Post, RunKept}
+use Rattle.iot_laptop.proofs.Common.{Seated, Some, StandWith, State, StateKept, Transaction, Up, ap, begun_of, besides, counts_on, disk_of}
+use Rattle.iot_laptop.proofs.Common.{false, if◌then◌else◌, inl, inr, live_by, live_of, live_with, none_besides, place_of, records_of, refl}
+use Rattle.iot_laptop.proofs.Common.{rules, same_Some, same_counts, seating, stamps_by, stamps_of, state_of, subst, sym, true, ℕ, [], ◌∙◌}
+use Rattle.iot_laptop.{proofs.Common.◌∷◌, proofs.Common.◌≡◌, specs.Seats.IsSeated}
+use Rattle.iot_node.specs.Keeping.{CanStart, Comes, CountsStart, EachIs, Fails, HoldSame}
+use Rattle.{iot_slots.specs.Cells.next, iot_stamp.proofs.TrailsLaws.none_lent}
+use Rattle.{iot_stamp.specs.Stamps.unstamped, iot_stamp.specs.Trails.lent_stamps, iot_standing.proofs.RunsLaws.none_live}
 use Rattle.iot_machine.specs.Clients as clients
 use Rattle.iot_durable.specs.Causes as causes
-use Rattle.iot_kept.proofs.SyncedLaws.{synced_stands}
-use Rattle.iot_kept.specs.Rules.{rules as kept_rules}
-use Rattle.iot_kept.specs.Standing.{EachStands, records_in}
-use Rattle.iot_laptop.specs.Below.{Medium, StandFor, StandWith, State, IsTied, state_of, place_of, disk_of, records_of, Client, ClientState}
-use Rattle.iot_laptop.specs.Below.{Seated, Live, Transaction, live_of, next, stamps_of, counts_on}
-use Rattle.iot_node.proofs.PostsLaws.{same_counts}
-use Rattle.iot_disk.specs.declared.faults.StartFault.{StartFault}
-use Rattle.iot_node.specs.Keeping.{EachIs, CanStart, HoldSame, Comes, Fails, CountsStart}
 use Rattle.iot_disk.specs.declared.faults.StartFault.TheVariants as faults
-use Rattle.iot_standing.specs.Kept.{RunKept, StateKept}
-use Rattle.iot_stamp.specs.Stamps.{unstamped}
-use Rattle.iot_laptop.specs.Seats.{Besides, IsSeated, IsClientImage, begun_of, seating, besides, none_besides}
-use Rattle.iot_laptop.specs.Laptops.{live_by, stamps_by}
-use Rattle.iot_laptop.specs.Below.{Post, Up}
 use Rattle.iot_node.specs.Posts as posts
-use Rattle.std.proofs.Common.{Some, None, if◌then◌else◌}
-use Rattle.std.proofs.lemmas.Option.{same_Some}
-use Rattle.iot_stamp.specs.Trails.{lent_stamps}
-use Rattle.iot_stamp.proofs.TrailsLaws.{none_lent}
 
 -- ---- what is known besides
 

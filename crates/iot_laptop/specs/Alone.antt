@@ -1,12 +1,12 @@
 -- What a client of the machine does alone, and how a call ends its event.
-use Rattle.std.specs.Prelude.{◌≡◌, ℕ, ◌+◌, Bool, true, false, List, [], Option, Some, None}
+use Rattle.std.specs.Prelude.{◌+◌, ◌≡◌}
+use Rattle.iot_laptop.specs.Below.{Bool, ClientState}
+use Rattle.iot_laptop.specs.Below.{Compared, Declared, Differs, List, None, Option, Same, Some, Try, false, has_any, true, view, ℕ, []}
+use Rattle.iot_machine.specs.Calls.{Answers, Asks, At, Call, Does, Gets, Goes, Part, Then}
+use Rattle.iot_machine.specs.Clients.{ReadsSame, Running, again, begin, end, numbered, reads_here, reads_on}
+use Rattle.iot_machine.specs.{Machine.Client, Machine.classed, Machine.node, Options.OnConflict}
+use Rattle.iot_machine.specs.{Serving.Conflict, Serving.Parts, Stops.OpensNode, Transactions.Writes, Transactions.unless_stopped}
 use Rattle.iot_tree.specs.declared.questions.Question.{Question}
-use Rattle.iot_laptop.specs.Below.{Try, Call, At, Declared, ClientState, begin, Writes, OnConflict, OpensNode}
-use Rattle.iot_machine.specs.Calls.{Part, Goes, Gets, Asks, Answers, Does, Then}
-use Rattle.iot_machine.specs.Clients.{Running, view, numbered, reads_here, reads_on, ReadsSame, end, again}
-use Rattle.iot_machine.specs.Machine.{Client, node, classed}
-use Rattle.iot_machine.specs.Serving.{Parts, Conflict}
-use Rattle.iot_machine.specs.Transactions.{unless_stopped, has_any, Compared, Same, Differs}
 
 -- ---- its record
 

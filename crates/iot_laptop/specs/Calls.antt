@@ -1,38 +1,36 @@
 -- What the calls of a laptop answer, and what they make of the client of the machine.
-use Rattle.std.specs.Prelude.{◌≡◌, ℕ, Bool, true, false, List, [], ◌∷◌, ◌++◌, Option, Some, None, Result, Ok, Err, codes, IfOk, OnOk}
-use Rattle.std.specs.Prelude.{IsErrOf, option_map, slice_get, length, ◌<◌}
+use Rattle.std.specs.Prelude.{Err, Ok, Result, codes, slice_get, ◌++◌, ◌<◌, ◌∷◌, ◌≡◌}
 use Rattle.iot_access.specs.Access.{access_of, lines_of}
-use Rattle.iot_tree.specs.declared.access.Access.{Access}
-use Rattle.iot_laptop.specs.Below.{reads_of, Nodes, State, Act, Read, Item, Stage, Transaction, IsRefresh, records_of, ClientFault, Step}
-use Rattle.iot_laptop.specs.Below.{Medium, Declared, ClientState, so_far, act_once, repair, reach, Plan, resolution_of, Acts}
-use Rattle.iot_laptop.specs.Below.{next_step, transaction_name, acts_output, stopped_line, no_text, Node, Appends, Appended, CameIf}
-use Rattle.iot_laptop.specs.Below.{words_of}
-use Rattle.iot_node.specs.declared.comeback.Comeback.TheVariants.{Restart}
-use Rattle.iot_laptop.specs.Below.{Answered, StepsFrom, PostStands, UpStands, Up, Halt, NoMemory, Over, Try, name_of, SpellsVerdict, Laptop}
-use Rattle.iot_laptop.specs.Below.{Gone, Seated, Spells, Stamps, brought, nothing_held}
-use Rattle.iot_tree.specs.declared.changes.Changes.{Changes as RowChanges}
-use Rattle.iot_wire.specs.declared.replies.Reply.TheVariants as replies
-use Rattle.iot_tree.specs.declared.labels.Label.{Label}
-use Rattle.iot_tree.specs.declared.labels.OnConflict.{OnConflict}
-use Rattle.iot_wire.specs.Messages.{IsMessage}
-use Rattle.iot_wire.specs.Rules.{IsRequest}
-use Rattle.iot_wire.specs.Spelling.{request_spelling}
-use Rattle.iot_wire.specs.declared.requests.Request.TheVariants.{Commit}
-use Rattle.iot_kept.specs.Changes.{IsSubmitted}
 use Rattle.iot_client.specs.Messages.{IsWholeRequest, label_of, resolved_label}
-use Rattle.iot_disk.specs.declared.faults.JournalFault.{JournalFault}
-use Rattle.iot_machine.specs.Clients.{Next}
-use Rattle.iot_machine.specs.Events.{cuts_off}
-use Rattle.iot_machine.specs.Texts.{cut_line}
-use Rattle.iot_node.specs.Steps.{Ends}
-use Rattle.iot_machine.specs.Refining.{StepsTo}
+use Rattle.iot_client.specs.declared.{ended.Ended.Ended, fault.ClientFault.ClientFault, steps.Step.Step}
+use Rattle.{iot_disk.specs.declared.faults.JournalFault.JournalFault, iot_kept.specs.States.Transaction}
+use Rattle.iot_laptop.specs.Alone.{NotesAlone, StartsAlone, YieldsAndNotes, yielding}
+use Rattle.iot_laptop.specs.Below.{AreNamed, Bool, ClientState, Compared, Declared, Differs, IfOk, IsErrOf, IsRefresh}
+use Rattle.iot_laptop.specs.Below.{IsSubmitted, Laptop, List, Medium, Nodes, None, OnOk, Option, Plan, PostStands, Read, Same, Seated}
+use Rattle.iot_laptop.specs.Below.{Some, Spells, SpellsVerdict, Stamps, State, Try, Up, acts_output, brought, cut_line, false, length}
+use Rattle.iot_laptop.specs.Below.{name_of, no_text, nothing_held, numbered, option_map, reads_of, records_of, true, waits_of, ℕ, []}
+use Rattle.iot_laptop.specs.Laptops.{ClientStands, IsFirst, LaptopStands, NodeStands, Reclassed, is_alive, stamps_in, state_in}
+use Rattle.iot_laptop.specs.{Messages.verdict_of, Seats.seating}
+use Rattle.iot_laptop.specs.declared.needs.Certified.{Certified, TheVariants.Again, TheVariants.Joined}
+use Rattle.iot_laptop.specs.declared.needs.{Gone.Gone, Need.Need, Submitted.Submitted, Undecided.Undecided, Undecided.TheVariants.NotManual}
+use Rattle.iot_laptop.specs.declared.{needs.Undecided.TheVariants.Nothing, verdict.Told.Told}
+use Rattle.iot_machine.specs.Clients.{Acts, Next, act_once, next_step, reach, repair, resolution_of, so_far}
+use Rattle.iot_machine.specs.{Events.cuts_off, Nodes.Node, Refining.StepsTo, Stops.Appends, Texts.stopped_line, Texts.transaction_name}
+use Rattle.iot_node.specs.{Keeping.Appended, Posts.Answered, Posts.CameIf, Posts.StepsFrom, Posts.UpStands, Posts.words_of, Steps.Ends}
+use Rattle.iot_node.specs.declared.{comeback.Comeback.TheVariants.Restart, halt.Halt.Halt}
+use Rattle.iot_node.specs.declared.halt.Halt.TheVariants.{NoMemory, Over}
+use Rattle.iot_queue.specs.declared.items.{Item.Item, Stage.Stage}
+use Rattle.iot_standing.specs.{Scripts.HasNamed, Scripts.IsNamed, Scripts.option_named, States.IsOver, States.head_option, States.head_plan}
+use Rattle.{iot_standing.specs.States.next_as, iot_standing.specs.States.told_change, iot_tree.specs.declared.access.Access.Access}
+use Rattle.iot_tree.specs.declared.{acts.Act.Act, changes.Changes.Changes as RowChanges, labels.Label.Label, labels.OnConflict.OnConflict}
+use Rattle.iot_wire.specs.{Messages.IsMessage, Rules.IsRequest, Spelling.request_spelling, declared.requests.Request.TheVariants.Commit}
+use Rattle.iot_wire.specs.declared.replies.Reply.TheVariants as replies
 use Rattle.iot_tree.specs.declared.want.Want.TheVariants as wanted
 use Rattle.iot_queue.specs.declared.items.Stage.TheVariants as stages
 use Rattle.iot_resolve.specs.Plans as resolves
 use Rattle.iot_resolve.specs.declared.plan.Plan as plans
 use Rattle.iot_client.specs.declared.fault.ClientFault.TheVariants as faults
 use Rattle.iot_client.specs.declared.steps.Step.TheVariants as steps
-use Rattle.iot_client.specs.declared.ended.Ended.{Ended}
 use Rattle.iot_client.specs.declared.ended.Ended.TheVariants as ends
 use Rattle.iot_disk.specs.declared.faults.JournalFault.TheVariants as append
 use Rattle.iot_machine.specs.Clients as clients
@@ -40,21 +38,6 @@ use Rattle.iot_machine.specs.Machine as machine
 use Rattle.iot_machine.specs.Options as options
 use Rattle.iot_machine.specs.Serving as serving
 use Rattle.iot_node.specs.declared.lines.Transaction as names
-use Rattle.iot_kept.specs.States.{numbered}
-use Rattle.iot_machine.specs.Transactions.{Compared, Same, Differs}
-use Rattle.iot_laptop.specs.Alone.{NotesAlone, StartsAlone, YieldsAndNotes, yielding}
-use Rattle.iot_laptop.specs.Laptops.{LaptopStands, ClientStands, NodeStands, Reclassed, state_in, stamps_in, IsFirst, is_alive}
-use Rattle.iot_standing.specs.States.{waits_of, told_change, IsOver, head_option, head_plan, next_as}
-use Rattle.iot_laptop.specs.Messages.{verdict_of}
-use Rattle.iot_standing.specs.Scripts.{IsNamed, HasNamed, AreNamed, option_named}
-use Rattle.iot_laptop.specs.Seats.{seating}
-use Rattle.iot_laptop.specs.declared.needs.Certified.{Certified}
-use Rattle.iot_laptop.specs.declared.needs.Certified.TheVariants.{Joined, Again}
-use Rattle.iot_laptop.specs.declared.needs.Need.{Need}
-use Rattle.iot_laptop.specs.declared.needs.Submitted.{Submitted}
-use Rattle.iot_laptop.specs.declared.needs.Undecided.{Undecided}
-use Rattle.iot_laptop.specs.declared.needs.Undecided.TheVariants.{Nothing, NotManual}
-use Rattle.iot_laptop.specs.declared.verdict.Told.{Told}
 use Rattle.iot_laptop.specs.declared.needs.Need.TheVariants as needs
 
 -- ---- a record

@@ -1,23 +1,18 @@
 -- Which client of the machine a laptop stands for.
-use Rattle.std.specs.Prelude.{◌≡◌, ℕ, Bool, true, false, List, [], Option, Some, None}
-use Rattle.std.specs.Borrow.{Lends, Fml, RattleType, MutBor}
+use Rattle.std.specs.{Borrow.Fml, Borrow.Lends, Borrow.MutBor, Borrow.RattleType, Prelude.◌≡◌}
+use Rattle.{iot_client.specs.declared.client.Client.Client, iot_kept.specs.States.opening}
+use Rattle.iot_laptop.specs.Below.{AreNamed, Bool, Declared, IsEmpty, Laptop, List, Live, Medium, Nodes, None, Option, PostStands}
+use Rattle.iot_laptop.specs.Below.{Seated, Some, Stamps, State, Up, break, false, live_numbered, no_text, nothing_held, true, view, ℕ, []}
+use Rattle.iot_laptop.specs.{Seats.seating, contracts.laptop.Laptop.the_row}
+use Rattle.iot_link.specs.declared.passages.Passage.{Passage}
+use Rattle.iot_machine.specs.{Clients.new_client, Machine.cut_off, Nodes.Counts, Nodes.unopened, Sound.Possibly}
+use Rattle.iot_node.specs.{Posts.disk_of, Posts.is_on, declared.post.Post.Post, declared.post.Post.TheVariants.Down}
+use Rattle.{iot_stamp.specs.Trails.KeepsTrail, iot_standing.specs.States.StateStands}
 use Rattle.iot_client.specs.contracts.client.Client as clients
-use Rattle.iot_laptop.specs.contracts.laptop.Laptop.{the_row}
-use Rattle.iot_laptop.specs.Below.{Nodes, State, opening, Live, Client, Medium, Passage, Declared, new_client, unopened, Possibly, IsEmpty}
-use Rattle.iot_client.specs.Calls.{live_numbered}
-use Rattle.iot_laptop.specs.Below.{is_on, PostStands, Post, Up, Down, no_text, Laptop, Seated, Stamps, nothing_held}
-use Rattle.iot_stamp.specs.Trails.{KeepsTrail}
-use Rattle.iot_machine.specs.Machine.{break, cut_off}
-use Rattle.iot_machine.specs.Clients.{view}
-use Rattle.iot_machine.specs.Nodes.{Counts}
-use Rattle.iot_node.specs.Posts.{disk_of}
 use Rattle.iot_client.specs.Ties as client
 use Rattle.iot_link.specs.Links as link
 use Rattle.iot_link.specs.declared.passages.Passage.TheVariants as passages
 use Rattle.iot_machine.specs.Machine as machine
-use Rattle.iot_standing.specs.Scripts.{AreNamed}
-use Rattle.iot_laptop.specs.Seats.{seating}
-use Rattle.iot_standing.specs.States.{StateStands}
 
 -- ---- what a laptop has
 

@@ -1,10 +1,10 @@
 -- What the server's replies say, and what becomes of a transaction by what its client is told.
-use Rattle.std.specs.Prelude.{◌≡◌, ℕ, List}
-use Rattle.iot_laptop.specs.Below.{Nodes, IsTree, Stamps, nodes_of, brought, Changes, Read, Spells, SpellsVerdict}
+use Rattle.std.specs.Prelude.{◌≡◌}
+use Rattle.iot_laptop.specs.Below.{List, Nodes, Read, Spells, SpellsVerdict, Stamps, brought, ℕ}
+use Rattle.iot_laptop.specs.declared.verdict.Verdict.{Verdict, TheVariants.Conflict, TheVariants.Settled}
+use Rattle.{iot_stamp.specs.Stamps.nodes_of, iot_tree.specs.Tree.IsTree, iot_tree.specs.declared.changes.Changes.Changes}
 use Rattle.iot_wire.specs.declared.replies.Reply.TheVariants as replies
 use Rattle.iot_machine.specs.Serving as serving
-use Rattle.iot_laptop.specs.declared.verdict.Verdict.{Verdict}
-use Rattle.iot_laptop.specs.declared.verdict.Verdict.TheVariants.{Settled, Conflict}
 
 -- ---- replies
 

@@ -1,10 +1,10 @@
 -- For which state of the machine a client stands as the keeper of a node, and the bytes of a disk.
-use Rattle.std.specs.Prelude.{◌≡◌, ℕ, List, [], Option, None, if◌then◌else◌, is_some}
-use Rattle.std.specs.List.{list_all}
-use Rattle.iot_laptop.specs.Below.{Live, state_of, place_of, disk_of, records_of, live_of, stamps_of, Stamps, IsTied, Medium, State}
-use Rattle.iot_laptop.specs.Below.{StandWith, ClientState, Keeping, Seated, next}
-use Rattle.iot_standing.specs.Kept.{StateKept}
-use Rattle.iot_stamp.specs.Trails.{lent_stamps}
+use Rattle.std.specs.{List.list_all, Prelude.if◌then◌else◌, Prelude.is_some, Prelude.◌≡◌}
+use Rattle.iot_client.specs.Ties.{IsTied, disk_of, live_of, place_of, stamps_of, state_of}
+use Rattle.iot_kept.specs.Standing.{StandWith}
+use Rattle.iot_laptop.specs.Below.{ClientState, List, Live, Medium, None, Option, Seated, Stamps, State, records_of, ℕ, []}
+use Rattle.iot_node.specs.Keeping.{Keeping}
+use Rattle.{iot_slots.specs.Cells.next, iot_stamp.specs.Trails.lent_stamps, iot_standing.specs.Kept.StateKept}
 
 -- it knows its place, its state is tied to its disk, which has so many records, and that is what a client of the machine keeps
 pub record IsSeated {D : Type 0} (medium : Medium D) (place : ℕ) (seated : Seated D) (count : ℕ) (m : ClientState) : Type 0 where

@@ -1,14 +1,12 @@
 //! The calls of a client that append a record. It is alive before each; if its disk fails in one, it has stopped.
-ghost use Rattle.std.specs.Prelude.{◌≡◌, ◌≤◌, ◌<◌, length, List, true, false, [], Some, IfOk, IfErr, OnOk, IsErrOf, IsSome};
-ghost use Rattle.iot_laptop.specs.Below.{may_end_if_any, live_numbered, HeadIs, IsSubmitted, IsByHand, IsScript, Declared, Plan, hold};
-ghost use Rattle.iot_laptop.specs.Below.{fetch, leave, acts_output, KeepsDisk, Nodes, IsWhole, nothing_held};
-ghost use Rattle.iot_client.specs.Faults.{MayFail};
-ghost use Rattle.iot_queue.specs.declared.items.Stage.TheVariants.{Conflict as in_conflict};
-ghost use Rattle.iot_machine.specs.Clients.{most_running};
-ghost use Rattle.iot_kept.specs.States.{numbered};
-ghost use Rattle.iot_laptop.specs.Alone.{CertifiesAlone};
-ghost use Rattle.iot_laptop.specs.Calls.{appended, acts_by, certified_if, compared_if, done};
-ghost use Rattle.iot_laptop.specs.Messages.{BringsTree, SpellsTree, IsVerdict};
+ghost use Rattle.std.specs.Prelude.{◌<◌, ◌≡◌, ◌≤◌};
+ghost use Rattle.{iot_client.specs.Faults.MayFail, iot_kept.specs.Changes.IsByHand, iot_lang.specs.Scripts.IsScript};
+ghost use Rattle.iot_laptop.specs.{Alone.CertifiesAlone, Below.Declared, Below.HeadIs, Below.IfErr, Below.IfOk, Below.IsErrOf};
+ghost use Rattle.iot_laptop.specs.Below.{IsSome, IsSubmitted, KeepsDisk, List, Nodes, OnOk, Plan, Some, acts_output, false, in_conflict};
+ghost use Rattle.iot_laptop.specs.Below.{length, live_numbered, may_end_if_any, most_running, nothing_held, numbered, true, []};
+ghost use Rattle.iot_laptop.specs.{Calls.acts_by, Calls.appended, Calls.certified_if, Calls.compared_if, Calls.done, Messages.BringsTree};
+ghost use Rattle.{iot_laptop.specs.Messages.IsVerdict, iot_laptop.specs.Messages.SpellsTree, iot_machine.specs.Clients.fetch};
+ghost use Rattle.{iot_machine.specs.Clients.hold, iot_machine.specs.Clients.leave, iot_tree.specs.Tree.IsWhole};
 
 use crate::laptop::Laptop;
 use crate::needs::{Certified, Gone};
@@ -24,12 +22,10 @@ use std::alloc::Global;
 use std::rc::Rc;
 
 impl<D: Disk> Laptop<D> {
-    ghost use Rattle.iot_laptop.specs.Laptops.{Stands, SamePlace, IsFirst, KeepsTrails, is_alive, state_in, stamps_in, live_in};
-    ghost use Rattle.iot_laptop.specs.Laptops.{LaptopStands, ClientStands};
-    ghost use Rattle.iot_laptop.specs.Laptops.{disk_in};
-    ghost use Rattle.iot_laptop.specs.Calls.{Changes, EndsAlone, Begins, Repairs, Plans, Resolves, NextIs, TakesStep, IsDoneIn};
-    ghost use Rattle.iot_laptop.specs.Calls.{IsGoneIfAny, waits_after};
-    ghost use Rattle.iot_laptop.specs.Calls.{IsTold, TakesVerdict, TakesStamps, UnlessNoMemory, GoesOn, head_reads};
+    ghost use Rattle.iot_laptop.specs.Calls.{Begins, Changes, EndsAlone, GoesOn, IsDoneIn, IsGoneIfAny, IsTold, NextIs, Plans, Repairs};
+    ghost use Rattle.iot_laptop.specs.Calls.{Resolves, TakesStamps, TakesStep, TakesVerdict, UnlessNoMemory, head_reads, waits_after};
+    ghost use Rattle.iot_laptop.specs.Laptops.{ClientStands, IsFirst, KeepsTrails};
+    ghost use Rattle.iot_laptop.specs.Laptops.{LaptopStands, SamePlace, Stands, disk_in, is_alive, live_in, stamps_in, state_in};
 
     /// Holds what the reply brings. What runs goes on.
     pub fn take(&mut self, alloc: Global, reply: &[u8], out: &mut Text) -> Result<(), Halt>

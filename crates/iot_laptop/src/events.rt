@@ -1,6 +1,7 @@
 //! The events of a client alone: its link, and what may befall its node.
-ghost use Rattle.std.specs.Prelude.{◌≡◌, List, true, Some, IsSome, IfOk, IfErr, OnOk};
-ghost use Rattle.iot_laptop.specs.Below.{Declared, Refines, KeepsDisk, is_fallen};
+ghost use Rattle.std.specs.Prelude.{◌≡◌};
+ghost use Rattle.iot_laptop.specs.Below.{Declared, IfErr, IfOk, IsSome, KeepsDisk, List, OnOk, Some, true};
+ghost use Rattle.{iot_machine.specs.Refining.Refines, iot_node.specs.Posts.is_fallen};
 ghost use Rattle.iot_machine.specs.Machine as machine;
 ghost use Rattle.iot_text.specs.Texts.{Extends};
 
@@ -13,10 +14,10 @@ use iot_text::{NoMemory, Text};
 use std::alloc::Global;
 
 impl<D: Disk> Laptop<D> {
-    ghost use Rattle.iot_machine.specs.Events.{Connects, Disconnects, Loses, CrashesClient, RestartsClient, ArmsClient};
     ghost use Rattle.iot_laptop.specs.Alone.{OpensClient};
-    ghost use Rattle.iot_laptop.specs.Laptops.{ClientStands, StandsAnyhow, IsUnopened, SamePlace, KeepsTrails, is_alive, state_in, disk_in};
-    ghost use Rattle.iot_laptop.specs.Calls.{Returned, Came, CutsAll, CutsFirst, RunFewer, UnlessNoMemory, done};
+    ghost use Rattle.iot_laptop.specs.Calls.{Came, CutsAll, CutsFirst, Returned, RunFewer, UnlessNoMemory, done};
+    ghost use Rattle.iot_laptop.specs.Laptops.{ClientStands, IsUnopened, KeepsTrails, SamePlace, StandsAnyhow, disk_in, is_alive, state_in};
+    ghost use Rattle.iot_machine.specs.Events.{ArmsClient, Connects, CrashesClient, Disconnects, Loses, RestartsClient};
 
     // ---- its link
 

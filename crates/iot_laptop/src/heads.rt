@@ -1,9 +1,7 @@
 //! The first transaction that waits: what it needs of the server, and what is planned for it.
-ghost use Rattle.std.specs.Prelude.{◌≡◌, ◌≤◌, ℕ, true, IfOk};
-ghost use Rattle.iot_laptop.specs.Below.{HeadIs, IsSubmitted};
-ghost use Rattle.iot_queue.specs.declared.items.Stage.TheVariants.{Conflict as in_conflict};
-ghost use Rattle.iot_laptop.specs.Calls.{acts_in, label_in};
-ghost use Rattle.iot_laptop.specs.Messages.{IsVerdict};
+ghost use Rattle.std.specs.Prelude.{◌≡◌, ◌≤◌};
+ghost use Rattle.iot_laptop.specs.Below.{HeadIs, IfOk, IsSubmitted, in_conflict, true, ℕ};
+ghost use Rattle.iot_laptop.specs.{Calls.acts_in, Calls.label_in, Messages.IsVerdict};
 
 use crate::laptop::{Laptop, memory};
 use crate::needs::{Need, Submitted, Undecided};
@@ -19,9 +17,8 @@ use iot_tree::{Act, OnConflict, Way};
 use std::alloc::Global;
 
 impl<D: Disk> Laptop<D> {
-    ghost use Rattle.iot_laptop.specs.Laptops.{Stands, state_in};
-    ghost use Rattle.iot_standing.specs.States.{waits_of};
-    ghost use Rattle.iot_laptop.specs.Calls.{head_name, decision, decision_on, IsNeed, head_reads, IsTold, IsHeadPlan};
+    ghost use Rattle.iot_laptop.specs.{Below.waits_of, Calls.IsHeadPlan, Calls.IsNeed, Calls.IsTold, Calls.decision};
+    ghost use Rattle.iot_laptop.specs.{Calls.decision_on, Calls.head_name, Calls.head_reads, Laptops.Stands, Laptops.state_in};
 
     /// The name of the first that waits.
     pub fn head(&self) -> Option<Transaction>

@@ -1,15 +1,12 @@
 //! A client that was declared, by its name and its place, and its link with the server.
-ghost use Rattle.std.specs.Prelude.{◌≡◌, ◌≤◌, ◌*◌, ◌&&◌, not, nat_lt, true, [], List, None, Some, IfOk, length, map, option_map};
-ghost use Rattle.std.specs.Option.{option_copied};
-ghost use Rattle.std.specs.Borrow.{sem};
-ghost use Rattle.iot_laptop.specs.Below.{IsRefresh, IsWalk, may_end_if_any, is_over_if_any, live_numbered, Declared, IsEmpty, counts_on};
-ghost use Rattle.iot_client.specs.declared.fault.ClientFault.TheVariants.{NoMemory as no_memory};
-ghost use Rattle.iot_machine.specs.Clients.{most_running};
-ghost use Rattle.iot_kept.specs.Memory.{transaction, transactions, classes_of};
-ghost use Rattle.iot_kept.specs.States.{numbered};
-ghost use Rattle.iot_machine.specs.Transactions.{has_any};
-ghost use Rattle.iot_laptop.specs.Calls.{meant_in};
-ghost use Rattle.iot_tree.specs.Profiles.{IsProfile, IsWalkLimit};
+ghost use Rattle.std.specs.{Borrow.sem, Option.option_copied};
+ghost use Rattle.std.specs.Prelude.{map, nat_lt, not, ◌&&◌, ◌*◌, ◌≡◌, ◌≤◌};
+ghost use Rattle.iot_client.specs.{Calls.is_over_if_any, declared.fault.ClientFault.TheVariants.NoMemory as no_memory};
+ghost use Rattle.iot_kept.specs.Memory.{classes_of, transaction, transactions};
+ghost use Rattle.iot_laptop.specs.Below.{Declared, IfOk, IsEmpty, IsRefresh, List, None, Some};
+ghost use Rattle.iot_laptop.specs.Below.{has_any, length, live_numbered, may_end_if_any, most_running, numbered, option_map, true, []};
+ghost use Rattle.{iot_laptop.specs.Calls.meant_in, iot_node.specs.Disks.counts_on};
+ghost use Rattle.{iot_tree.specs.Profiles.IsProfile, iot_tree.specs.Profiles.IsWalkLimit, iot_wire.specs.Meanings.IsWalk};
 
 use crate::seated::Seated;
 use iot_client::{Client, ClientFault, Running};
@@ -31,9 +28,9 @@ pub struct Laptop<D: Disk> {
 }
 
 impl<D: Disk> Laptop<D> {
-    ghost use Rattle.iot_laptop.specs.Laptops.{is_alive, state_in, stamps_in, live_in, disk_in, lent_by, records_in, IsView};
-    ghost use Rattle.iot_standing.specs.States.{waits_of};
-    ghost use Rattle.iot_laptop.specs.Laptops.{Stands, StandsAnyhow, FallenStands, IsLent, LendsClient, IsUnopened, unopened_laptop};
+    ghost use Rattle.iot_laptop.specs.Below.{waits_of};
+    ghost use Rattle.iot_laptop.specs.Laptops.{FallenStands, IsLent, IsUnopened, IsView, LendsClient, Stands, StandsAnyhow};
+    ghost use Rattle.iot_laptop.specs.Laptops.{disk_in, is_alive, lent_by, live_in, records_in, stamps_in, state_in, unopened_laptop};
 
     /// The client of this name at this place, on an empty disk. It was never started.
     pub fn unopened(name: Name, place: u64, disk: D) -> Laptop<D>

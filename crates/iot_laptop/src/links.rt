@@ -1,15 +1,14 @@
 //! The link of a client with the server.
 ghost use Rattle.std.specs.Prelude.{◌≡◌};
-ghost use Rattle.iot_link.specs.Links.{passage};
-ghost use Rattle.iot_link.specs.declared.passages.Passage.TheVariants.{Both};
+ghost use Rattle.iot_link.specs.{Links.passage, declared.passages.Passage.TheVariants.Both};
 
 use crate::laptop::Laptop;
 use iot_disk::Disk;
 use iot_link::Passage;
 
 impl<D: Disk> Laptop<D> {
-    ghost use Rattle.iot_machine.specs.Machine.{break};
-    ghost use Rattle.iot_laptop.specs.Laptops.{Stands, StandsAnyhow, IsCutLink, Relinked, Reclassed, all_second, after_passage, disk_in};
+    ghost use Rattle.iot_laptop.specs.Below.{break};
+    ghost use Rattle.iot_laptop.specs.Laptops.{IsCutLink, Reclassed, Relinked, Stands, StandsAnyhow, after_passage, all_second, disk_in};
 
     /// Whether its link is up.
     pub fn is_connected(&self) -> bool

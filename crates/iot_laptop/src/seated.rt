@@ -11,9 +11,8 @@ pub struct Seated<D: Disk> {
 }
 
 impl<D: Disk> Keeper<D> for Seated<D> {
-    ghost use Rattle.std.specs.Prelude.{ℕ, List};
-    ghost use Rattle.iot_laptop.specs.Below.{ClientState};
-    ghost use Rattle.iot_laptop.specs.Seats.{Besides, seating, besides, none_besides};
+    ghost use Rattle.iot_laptop.specs.Below.{ClientState, List, ℕ};
+    ghost use Rattle.iot_laptop.specs.Seats.{Besides, besides, none_besides, seating};
 
     ghost Kept = { ClientState };
 

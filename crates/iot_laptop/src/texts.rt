@@ -1,7 +1,7 @@
 //! The lines of a client alone.
-ghost use Rattle.std.specs.Prelude.{◌≡◌, ◌++◌, IfOk, OnOk};
-ghost use Rattle.iot_machine.specs.Texts.{line, lose_line, cut_line, output, acts_output, output_line};
-ghost use Rattle.iot_node.specs.Lines.{name_of};
+ghost use Rattle.std.specs.Prelude.{◌++◌, ◌≡◌};
+ghost use Rattle.iot_laptop.specs.Below.{IfOk, OnOk, acts_output, cut_line, name_of};
+ghost use Rattle.iot_machine.specs.Texts.{line, lose_line, output, output_line};
 
 use iot_link::Loss;
 use iot_node::Transaction;

@@ -1,6 +1,6 @@
 //! What a client is told of a transaction that it submitted.
-ghost use Rattle.std.specs.Prelude.{◌≡◌, IfOk};
-ghost use Rattle.iot_laptop.specs.Below.{reads_of, SpellsVerdict};
+ghost use Rattle.std.specs.Prelude.{◌≡◌};
+ghost use Rattle.iot_laptop.specs.Below.{IfOk, SpellsVerdict, reads_of};
 ghost use Rattle.iot_machine.specs.Serving as serving;
 ghost use Rattle.iot_laptop.specs.Messages.{IsVerdict, verdict_of};
 

@@ -1,19 +1,19 @@
 -- A node over any keeper does what the machine's node does.
-use Rattle.std.proofs.Common.{◌≡◌, ℕ, ◌+◌, ◌==◌, Bool, true, false, List, [], ◌++◌, Option, None, Some, IsSome, Ok, Err, refl, sym, ap}
-use Rattle.std.proofs.Common.{◌∙◌, subst, inl, inr, arith, codes}
-use Rattle.std.proofs.lemmas.List.{append-nil}
-use Rattle.std.proofs.lemmas.Bool.Decides.{nat_tests}
-use Rattle.iot_node.specs.Prelude.{Rose, Storing, armed_with, Pick, StartFault, Call, Node, Counts, opened, changed, doubting}
-use Rattle.iot_node.specs.Prelude.{back, armed, Refines, line, stopped_line, stop_line, Doubt, Fallen, Post, Up, Down, Between, next}
+use Rattle.std.proofs.Common.{Bool, Err, IsSome, List, None}
+use Rattle.std.proofs.Common.{Ok, Option, Some, ap, arith, codes, false, inl, inr, refl, subst, sym, true, ℕ, [], ◌++◌, ◌+◌, ◌==◌, ◌∙◌, ◌≡◌}
+use Rattle.std.proofs.lemmas.{Bool.Decides.nat_tests, List.append-nil}
+use Rattle.iot_disk.specs.{Disk.armed_with, declared.disk.Pick.Pick, declared.faults.StartFault.StartFault}
+use Rattle.iot_machine.{proofs.StepsLaws.asks, proofs.StepsLaws.bind, proofs.StepsLaws.does, proofs.StepsLaws.says_this, specs.Nodes.armed}
+use Rattle.iot_machine.specs.{Nodes.back, Nodes.changed, Nodes.doubting, Nodes.opened, Refining.Refines, Stops.Appends, Stops.ArmsDisk}
+use Rattle.iot_machine.specs.{Stops.ComesBackAs, Stops.Crashes, Stops.IsStopped, Stops.OpensNode, Stops.SettlesAs, Texts.stop_line}
+use Rattle.{iot_machine.specs.Texts.stopped_line, iot_node.specs.Disks.KeepsImages, iot_node.specs.Disks.counts_on}
+use Rattle.iot_node.specs.Keeping.{Appended, Armed, CanStart, Comes, CountsStart, Doubts, EachIs, Failed, Fails, HoldSame, IsEither}
+use Rattle.iot_node.specs.{Keeping.Keeping, Posts.CameIf, Posts.DownStands}
+use Rattle.iot_node.specs.Posts.{HoldsBy, HoldsEither, IsStanding, Lasts, PostStands, Ready, StepsFrom, UpStands, back_said, disk_of, is_on}
+use Rattle.iot_node.specs.Prelude.{Between, Call, Counts, Doubt, Down, Node, Rose, Storing, Up, line, next}
+use Rattle.iot_node.specs.declared.post.{Fallen.Fallen, Post.Post}
 use Rattle.iot_disk.specs.declared.faults.JournalFault.TheVariants as append
 use Rattle.iot_disk.specs.declared.faults.StartFault.TheVariants as start
-use Rattle.iot_machine.proofs.StepsLaws.{asks, bind, does, says_this}
-use Rattle.iot_machine.specs.Stops.{IsStopped, OpensNode, Appends, SettlesAs, ComesBackAs, Crashes, ArmsDisk}
-use Rattle.iot_node.specs.Disks.{counts_on, KeepsImages}
-use Rattle.iot_node.specs.Keeping.{Keeping, EachIs, Failed, IsEither, CanStart, HoldSame, Comes, Fails, Armed, Appended, Doubts}
-use Rattle.iot_node.specs.Keeping.{CountsStart}
-use Rattle.iot_node.specs.Posts.{is_on, disk_of, Ready, back_said, UpStands, HoldsBy, DownStands, PostStands, StepsFrom, HoldsEither, Lasts}
-use Rattle.iot_node.specs.Posts.{CameIf, IsStanding}
 
 pub on_has : {K D : Type 0} (post : Post K D) → is_on post ≡ true → (keeper : K) × (post ≡ Up keeper)
 on_has (Up keeper) up = (keeper, refl)

@@ -1,6 +1,7 @@
 -- What a node's disks have counted, and what a call leaves of them.
-use Rattle.std.specs.Prelude.{◌≡◌, ◌⊎◌, [], option_map}
-use Rattle.iot_node.specs.Prelude.{Option, Some, Rose, Storing, Medium, Only, Counts}
+use Rattle.std.specs.Prelude.{[], ◌≡◌, ◌⊎◌}
+use Rattle.iot_disk.specs.Disk.{Medium, Only}
+use Rattle.iot_node.specs.Prelude.{Counts, Option, Rose, Some, Storing, option_map}
 
 -- ---- of whatever keeps something durable: a disk, or more than one
 

@@ -1,10 +1,10 @@
 -- What keeps a node's state on its disks, and what its calls do: how it reads them, and what its records are, are its own affair.
 use Rattle.std.specs.Prelude.{◌≡◌, ◌⊎◌}
-use Rattle.iot_node.specs.Prelude.{ℕ, List, Result, Ok, Err, Rose, Storing, armed_with, Pick, StartFault, JournalFault, Counts, Doubt}
-use Rattle.iot_node.specs.Prelude.{next}
+use Rattle.iot_disk.specs.{Disk.armed_with, declared.disk.Pick.Pick, declared.faults.StartFault.StartFault}
+use Rattle.iot_node.specs.Disks.{counts_on}
+use Rattle.iot_node.specs.Prelude.{Counts, Doubt, Err, JournalFault, List, Ok, Result, Rose, Storing, next, ℕ}
 use Rattle.iot_disk.specs.declared.faults.StartFault.TheVariants as start
 use Rattle.iot_disk.specs.declared.faults.JournalFault.TheVariants as append
-use Rattle.iot_node.specs.Disks.{counts_on}
 
 -- For which state, with so many records, counted modulo 2 ^ 64, a keeper stands, and an image of its disks; which images are in the midst
 -- of one record more, behind so many, which turns the first state into the second; and the keeper's disks.

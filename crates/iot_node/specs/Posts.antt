@@ -1,10 +1,11 @@
 -- Which node of the machine a node over a keeper stands for.
-use Rattle.std.specs.Prelude.{◌≡◌, ◌⊎◌, ◌==◌, if◌then◌else◌, Bool, true, false, ◌++◌, codes, option_map}
-use Rattle.iot_node.specs.Prelude.{ℕ, List, Option, None, Some, Result, Ok, Err, Storing, JournalFault, Call, Node, line, kept_as, lost_as}
-use Rattle.iot_node.specs.Prelude.{Halt, NoMemory, Over, Doubt, Fallen, Post, Up, Down, Between, Comeback, next}
-use Rattle.iot_node.specs.declared.comeback.Comeback.TheVariants.{Restart, Promote}
-use Rattle.iot_node.specs.Disks.{counts_on, OnlyImage}
-use Rattle.iot_node.specs.Keeping.{Keeping, EachIs, IsEither}
+use Rattle.std.specs.Prelude.{Bool, codes, if◌then◌else◌, ◌++◌, ◌==◌, ◌≡◌, ◌⊎◌}
+use Rattle.iot_machine.specs.Texts.{kept_as, lost_as}
+use Rattle.iot_node.specs.{Disks.OnlyImage, Disks.counts_on, Keeping.EachIs, Keeping.IsEither, Keeping.Keeping}
+use Rattle.iot_node.specs.Prelude.{Between, Call, Doubt, Down, Err, Halt, JournalFault, List, NoMemory}
+use Rattle.iot_node.specs.Prelude.{Node, None, Ok, Option, Over, Result, Some, Storing, Up, false, line, next, option_map, true, ℕ}
+use Rattle.iot_node.specs.declared.comeback.Comeback.{Comeback, TheVariants.Promote, TheVariants.Restart}
+use Rattle.iot_node.specs.declared.post.{Fallen.Fallen, Post.Post}
 
 abbrev pub is_on : {K D : Type 0} → Post K D → Bool
 is_on (Up keeper) = true

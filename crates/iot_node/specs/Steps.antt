@@ -1,5 +1,6 @@
 -- How a call of the code goes that may end its event.
-use Rattle.iot_node.specs.Prelude.{ℕ, List, Option, None, Some, Result, Ok, Err, Call, StepsTo, Halt, NoMemory, Over}
+use Rattle.iot_machine.specs.Refining.{StepsTo}
+use Rattle.iot_node.specs.Prelude.{Call, Err, Halt, List, NoMemory, None, Ok, Option, Over, Result, Some, ℕ}
 
 -- It goes on, and the node is up; or the event is over, and the node may be down. Nothing is said if memory ran out.
 abbrev pub EndsBy : {W M A : Type 0} → (up down : W → M → Type 0) → Call M (Option A) → (old new : W) → (x y : List ℕ) → Result A Halt

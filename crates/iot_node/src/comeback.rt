@@ -1,6 +1,6 @@
 //! How a node that is down comes back.
-ghost use Rattle.std.specs.Prelude.{◌≡◌, ◌++◌, OnOk};
-ghost use Rattle.iot_node.specs.Posts.{words_of};
+ghost use Rattle.std.specs.Prelude.{◌++◌, ◌≡◌};
+ghost use Rattle.iot_node.specs.{Posts.words_of, Prelude.OnOk};
 
 use iot_text::{NoMemory, Text};
 

@@ -1,8 +1,7 @@
 //! What a node needs of that which keeps its state on its disks. The calls by which a keeper appends a record are its own.
-ghost use Rattle.std.specs.Prelude.{◌≡◌, ℕ, IfOk, IfErr};
-ghost use Rattle.iot_disk.specs.Disk.{Storing};
-ghost use Rattle.iot_node.specs.Disks.{OnlyImage, KeepsImages};
-ghost use Rattle.iot_node.specs.Keeping.{Keeping, EachIs, CanStart, Comes, Fails, Armed};
+ghost use Rattle.std.specs.Prelude.{◌≡◌};
+ghost use Rattle.iot_node.specs.{Disks.KeepsImages, Disks.OnlyImage, Keeping.Armed, Keeping.CanStart, Keeping.Comes};
+ghost use Rattle.iot_node.specs.{Keeping.EachIs, Keeping.Fails, Keeping.Keeping, Prelude.IfErr, Prelude.IfOk, Prelude.Storing, Prelude.ℕ};
 
 use iot_disk::{Pick, StartFault};
 use std::alloc::Global;

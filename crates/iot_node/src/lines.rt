@@ -1,6 +1,6 @@
 //! Lines, and the names of transactions in them.
-ghost use Rattle.std.specs.Prelude.{◌≡◌, ◌++◌, OnOk};
-ghost use Rattle.iot_machine.specs.Texts.{line, transaction_name};
+ghost use Rattle.std.specs.Prelude.{◌++◌, ◌≡◌};
+ghost use Rattle.iot_node.specs.Prelude.{OnOk, line, transaction_name};
 
 use iot_text::{Name, NoMemory, Text};
 

@@ -1,15 +1,13 @@
 //! A node over any keeper: alive, or down with its disks. Here alone a disk that fails becomes a stop.
-ghost use Rattle.std.specs.Prelude.{◌≡◌, ◌++◌, ℕ, List, true, false, if◌then◌else◌, Option, Some, None, Ok, Err, IfOk, IfErr, OnOk};
-ghost use Rattle.std.specs.Prelude.{IsErrOf, IsSome};
-ghost use Rattle.iot_node.specs.Prelude.{Node, Refines, line, stopped_line, stop_line, pick_text, Over};
-ghost use Rattle.iot_machine.specs.Stops.{OpensNode, Appends, ComesBackAs, Crashes, ArmsDisk};
+ghost use Rattle.std.specs.Prelude.{IsErrOf, IsSome, if◌then◌else◌, ◌++◌, ◌≡◌};
+ghost use Rattle.iot_machine.specs.{Refining.Refines, Stops.Appends, Stops.ArmsDisk, Stops.ComesBackAs, Stops.Crashes, Stops.OpensNode};
+ghost use Rattle.iot_machine.specs.Texts.{pick_text, stop_line, stopped_line};
+ghost use Rattle.iot_node.specs.Prelude.{Err, IfErr, IfOk, List, Node, None, Ok, OnOk, Option, Over, Some, false, line, true, ℕ};
 ghost use Rattle.iot_disk.specs.declared.faults.JournalFault.TheVariants as append;
-ghost use Rattle.iot_disk.specs.declared.faults.StartFault.TheVariants.{Stopped};
-ghost use Rattle.iot_node.specs.Disks.{KeepsDisk};
-ghost use Rattle.iot_node.specs.Keeping.{EachIs, Appended, Doubts, TakesBytes};
-ghost use Rattle.iot_node.specs.Posts.{PostStands, is_on, is_fallen, disk_of, live_of, beside_of, Ready, Answered, UpStands, StepsFrom};
-ghost use Rattle.iot_node.specs.Posts.{words_of, back_said, Lasts, CameIf, IsStanding};
-ghost use Rattle.iot_text.specs.Texts.{Extends};
+ghost use Rattle.{iot_disk.specs.declared.faults.StartFault.TheVariants.Stopped, iot_node.specs.Disks.KeepsDisk};
+ghost use Rattle.iot_node.specs.{Keeping.Appended, Keeping.Doubts, Keeping.EachIs, Keeping.TakesBytes, Posts.Answered, Posts.CameIf};
+ghost use Rattle.iot_node.specs.Posts.{IsStanding, Lasts, PostStands, Ready, StepsFrom, UpStands, back_said, beside_of, disk_of, is_fallen};
+ghost use Rattle.{iot_node.specs.Posts.is_on, iot_node.specs.Posts.live_of, iot_node.specs.Posts.words_of, iot_text.specs.Texts.Extends};
 
 use crate::comeback::Comeback;
 use crate::halt::Halt;
@@ -51,7 +49,7 @@ pub enum Post<K, P> {
 }
 
 impl<K: Keeper<P>, P> Post<K, P> {
-    ghost use Rattle.iot_node.specs.declared.post.Post.TheVariants.{Up, Down, Between};
+    ghost use Rattle.iot_node.specs.Prelude.{Between, Down, Up};
 
     /// Whether it is alive.
     pub fn is_up(&self) -> bool

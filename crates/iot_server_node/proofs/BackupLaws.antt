@@ -1,28 +1,16 @@
 -- The server's backup: how it is armed, and how the server goes on from it.
-use Rattle.std.proofs.lemmas.Option.{same_Some}
-use Rattle.iot_server_node.proofs.Common.{◌≡◌, ◌+◌, ℕ, Bool, true, false, List, Option, Some, None, option_map, refl}
-use Rattle.iot_server_node.proofs.Common.{sym, ap, subst}
-use Rattle.iot_server_node.proofs.Common.{◌∙◌, inl, inr, arith, lists, ServerStands, disk_of}
-use Rattle.iot_disk.specs.declared.disk.Pick.{Pick}
-use Rattle.iot_machine.specs.Nodes.{Counts}
-use Rattle.iot_node.specs.Disks.{KeepsImages}
+use Rattle.{iot_machine.specs.Nodes.armed, iot_node.proofs.PostsLaws.fewer}
+use Rattle.{iot_node.proofs.PostsLaws.holds_on, iot_node.specs.Disks.KeepsImages, iot_server_node.proofs.BeginningLaws.lasts_go_on}
+use Rattle.iot_server_node.proofs.Common.{AreSo, Bool, CameIf, ComesBackAs, Commit, Counts, Disks, Doubt, Down, HasAnswered, HoldsBy}
+use Rattle.iot_server_node.proofs.Common.{Image, KeepsCommits, Lasts, List, MayLeave, Medium, Node, None, Option, Pick, Post, PostStands}
+use Rattle.iot_server_node.proofs.Common.{Refines, ServerKeeper, ServerNode, ServerStands, Some, Up, ap, arith, arming_as, counts_on}
+use Rattle.iot_server_node.proofs.Common.{disk_of, disks_in, false, inl, inr, is_on, is_up, kept_text, lists, on_both, option_map, placed}
+use Rattle.iot_server_node.proofs.Common.{promote_words, refl, same_Some, server_name, sides_of, subst, sym, traffic_in, true, turned_post}
+use Rattle.iot_server_node.proofs.{Common.ℕ, Common.◌+◌, Common.◌∙◌, Common.◌≡◌, PairsLaws.both_so, PairsLaws.other_left}
+use Rattle.iot_server_node.{proofs.ServersLaws.Posted, proofs.ServersLaws.known_comes_back, specs.Disks.ArmsOther}
+use Rattle.iot_server_node.specs.{Disks.IsPlaced, Disks.Sides, Disks.sides, Prelude.Arms, Prelude.Traffic, Prelude.armed_with}
+use Rattle.iot_server_node.specs.Servers.{ArmsServersBackup, HasBackup, HasOther, Promotes, given_up_in, is_promoted}
 use Rattle.iot_node.specs.Posts as posts
-use Rattle.iot_node.proofs.PostsLaws.{fewer, holds_on}
-use Rattle.iot_server_node.specs.Disks.{ArmsOther, Image, IsPlaced, MayLeave, Sides, on_both, placed, sides, sides_of}
-use Rattle.iot_server_node.specs.Keepers.{disks_in, traffic_in}
-use Rattle.iot_server_node.specs.Prelude.{Arms, CameIf, Commit, ComesBackAs, Disks, Doubt, Down, Up, Lasts, Medium}
-use Rattle.iot_server_node.specs.Prelude.{Node, Post}
-use Rattle.iot_server_node.specs.Prelude.{PostStands, Refines, HoldsBy, ServerKeeper, ServerNode, arming_as, armed, armed_with}
-use Rattle.iot_server_node.specs.Prelude.{counts_on}
-use Rattle.iot_server_node.specs.Prelude.{is_on, kept_text, promote_words, server_name}
-use Rattle.iot_server_node.specs.Servers.{ArmsServersBackup, HasAnswered, HasBackup, HasOther}
-use Rattle.iot_server_node.specs.Records.{AreSo}
-use Rattle.iot_server_node.specs.Servers.{KeepsCommits, Promotes}
-use Rattle.iot_server_node.specs.Servers.{given_up_in, is_promoted, is_up, turned_post}
-use Rattle.iot_server.specs.declared.traffic.Traffic.{Traffic}
-use Rattle.iot_server_node.proofs.BeginningLaws.{lasts_go_on}
-use Rattle.iot_server_node.proofs.PairsLaws.{both_so, other_left}
-use Rattle.iot_server_node.proofs.ServersLaws.{Posted, known_comes_back}
 
 -- ---- which disks there are
 

@@ -1,29 +1,20 @@
 -- From which states each image of the server's disks goes on.
-use Rattle.iot_server_node.proofs.Common.{◌≡◌, ℕ, List, [], ◌∷◌, ◌++◌, Option, inl, inr, refl, sym, subst}
-use Rattle.iot_server_node.proofs.Common.{Some, lists, IsImage, state_of, disk_of, ServerStands}
-use Rattle.iot_slots.specs.declared.version.Version.TheVariants.{Two}
-use Rattle.iot_server_node.specs.Prelude.{PostStands, kept_text}
-use Rattle.iot_server_node.specs.Prelude.{Medium, JournalFault, Commit, Node, Lasts, Post, IsRecord, Leads, StandFor, State, rules}
-use Rattle.iot_server_node.specs.Prelude.{Disks, EachStays, Encoded, If, Storing, images_of, state_on}
-use Rattle.iot_server_node.specs.Prelude.{CanFollow, after_commit, next, Request, ServerKeeper, ServerNode, Label, IsAnswered}
-use Rattle.iot_server_node.specs.Prelude.{IsMessage, IsRequest, request_spelling}
+use Rattle.iot_disk.specs.declared.faults.JournalFault.{JournalFault}
+use Rattle.{iot_durable.proofs.StandingLaws.leads_push, iot_server.specs.Faults.Stays}
+use Rattle.iot_server_node.proofs.Common.{Access, CanFollow, Commit, Cuts, Disks, EachStays, Encoded, Handles, If, Image, IsAnswered}
+use Rattle.iot_server_node.proofs.Common.{IsImage, IsMessage, IsOneMoreIfAny, IsRequest, KeepsCommits, Label, Lasts, Leads, List, Medium}
+use Rattle.iot_server_node.proofs.Common.{Node, NodeIsKnown, Option, Post, PostStands, Refuses, Request, ServerIsSound, ServerKeeper}
+use Rattle.iot_server_node.proofs.Common.{ServerNode, ServerStands, Some, StandFor, State, Storing, Two, after_commit, disk_of}
+use Rattle.iot_server_node.proofs.Common.{disks_in, if_so, images_of, inl, inr, kept_text, lists, next, on_both, reads_may_leave, refl}
+use Rattle.iot_server_node.proofs.Common.{request_spelling, rules, second_stays, state_of, state_on, store_stays, subst, sym, ℕ, [], ◌++◌}
+use Rattle.iot_server_node.proofs.{Common.◌∷◌, Common.◌≡◌, PairsLaws.server_so, PairsLaws.so_as, ServersLaws.lasts, ServersLaws.live}
+use Rattle.iot_server_node.{proofs.ServersLaws.recorded, specs.Keepers.RefusesFor}
+use Rattle.iot_server_node.specs.{Records.DiskGoesOn, Records.EachGoesOn, Records.GoesOnFrom, Records.KeepsRecords, Servers.IsOneMore}
+use Rattle.iot_store.{proofs.PartsLaws.changes_if, proofs.StandingLaws.store_alone, specs.Records.IsRecord, specs.Standing.EachStandsEither}
 use Rattle.iot_disk.specs.declared.faults.JournalFault.TheVariants as append
-use Rattle.iot_durable.proofs.StandingLaws.{leads_push}
 use Rattle.iot_node.specs.Posts as posts
 use Rattle.iot_server.specs.Servers as servers
-use Rattle.iot_store.proofs.PartsLaws.{changes_if}
-use Rattle.iot_server_node.proofs.PairsLaws.{server_so, so_as}
-use Rattle.iot_store.proofs.StandingLaws.{second_stays, store_alone, store_stays}
-use Rattle.iot_store.specs.Standing.{EachStandsEither}
-use Rattle.iot_backup.proofs.PairsLaws.{if_so}
-use Rattle.iot_server.specs.Faults.{Stays}
-use Rattle.iot_tree.specs.declared.access.Access.{Access}
 use Rattle.iot_wire.specs.declared.requests.Request.TheVariants as requests
-use Rattle.iot_server_node.specs.Disks.{Image, on_both, reads_may_leave}
-use Rattle.iot_server_node.specs.Keepers.{Cuts, Handles, Refuses, RefusesFor, disks_in}
-use Rattle.iot_server_node.specs.Records.{GoesOnFrom, EachGoesOn, DiskGoesOn, KeepsRecords}
-use Rattle.iot_server_node.specs.Servers.{IsOneMore, IsOneMoreIfAny, NodeIsKnown, ServerIsSound, KeepsCommits}
-use Rattle.iot_server_node.proofs.ServersLaws.{lasts, live, recorded}
 
 -- ---- one image
 

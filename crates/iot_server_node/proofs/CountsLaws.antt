@@ -1,19 +1,14 @@
 -- What the server's disks have counted, by what each has, and how they were armed.
-use Rattle.iot_server_node.proofs.Common.{◌≡◌, ◌+◌, ℕ, List, Option, Some, None, option_map, refl, ap, inl, inr, arith, Result, Err}
-use Rattle.iot_count.specs.Counts.{Rose, Stayed}
-use Rattle.iot_disk.specs.declared.faults.StartFault.{StartFault}
+use Rattle.{iot_backup.specs.Parts.NoneRose, iot_backup.specs.Parts.OneRose, iot_count.specs.Counts.Rose, iot_count.specs.Counts.Stayed}
+use Rattle.{iot_durable.specs.Causes.HasDiskCause, iot_node.specs.Keeping.CountsStart, iot_node.specs.Keeping.Failed}
+use Rattle.iot_server.specs.{Faults.CountsServerFaults, declared.fault.ServerFault.ServerFault}
+use Rattle.iot_server_node.proofs.Common.{Changes, Counts, Err, HasCause, KeepsDisk, List, Medium, None}
+use Rattle.iot_server_node.proofs.Common.{Option, Result, Server, ServerKeeper, Slots, Some, StartFault, TakesBytes, ap, arith, counts_on}
+use Rattle.iot_server_node.proofs.Common.{disk_on, disks_in, faults_in, inl, inr, on_both, option_map, other_in, refl, rules, ℕ, ◌+◌, ◌≡◌}
+use Rattle.iot_server_node.specs.Keepers.{KeepsArms}
 use Rattle.iot_disk.specs.declared.faults.StartFault.TheVariants as start
-use Rattle.iot_durable.specs.Causes.{HasCause, HasDiskCause, TakesBytes}
-use Rattle.iot_machine.specs.Nodes.{Counts}
-use Rattle.iot_node.specs.Keeping.{CountsStart, Failed}
-use Rattle.iot_server.specs.Faults.{CountsServerFaults}
-use Rattle.iot_server.specs.declared.fault.ServerFault.{ServerFault}
 use Rattle.iot_server.specs.declared.fault.ServerFault.TheVariants as fault
 use Rattle.iot_server.specs.Servers as servers
-use Rattle.iot_slots.specs.declared.slots.Slots.{Slots}
-use Rattle.iot_server_node.specs.Disks.{faults_in, on_both, other_in}
-use Rattle.iot_server_node.specs.Keepers.{KeepsArms, disks_in}
-use Rattle.iot_server_node.specs.Prelude.{Changes, KeepsDisk, Medium, NoneRose, OneRose, Server, ServerKeeper, counts_on, disk_on, rules}
 
 module _ {D : Type 0} (medium : Medium D) where
   abbrev counts : (disk : D) (backup given_up : Option D) → Counts

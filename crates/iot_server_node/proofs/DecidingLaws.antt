@@ -1,12 +1,11 @@
 -- What a node says that comes back is decided by its images, where they agree.
-use Rattle.iot_server_node.proofs.Common.{◌≡◌, ℕ, Bool, true, false, List, [], ◌++◌, Option, Some, None, inl, inr, refl, sym, ap, ◌∙◌}
-use Rattle.iot_server_node.proofs.Common.{append_assoc, append-nil, lists}
-use Rattle.iot_server_node.specs.Prelude.{Medium, Storing, next, Commit, Node, Refines, server_name, kept_text}
-use Rattle.iot_server_node.specs.Prelude.{ComesBackAs, stopped_line, kept_as, lost_as, PostStands, CameIf, back_said, Doubt, Post, Down}
-use Rattle.iot_server_node.specs.Prelude.{Disks, Keeping, ServerKeeper, records_in}
-use Rattle.iot_server_node.specs.Disks.{Image, MayLeave, on_both}
-use Rattle.iot_server_node.specs.Deciding.{HasCount, Begins, DecidesBy, DecidesIfAny, DecidesPost}
-use Rattle.iot_node.proofs.PostsLaws.{next_number, same_number}
+use Rattle.std.proofs.Common.{append_assoc}
+use Rattle.iot_machine.specs.Texts.{kept_as, lost_as, stopped_line}
+use Rattle.iot_node.{proofs.PostsLaws.next_number, proofs.PostsLaws.same_number, specs.Keeping.Keeping, specs.Posts.back_said}
+use Rattle.iot_server_node.proofs.Common.{Bool, CameIf, ComesBackAs, Commit, Disks, Doubt, Down, Image, List, MayLeave, Medium, Node, None}
+use Rattle.iot_server_node.proofs.Common.{Option, Post, PostStands, Refines, ServerKeeper, Some, Storing, ap, append-nil, false, inl, inr}
+use Rattle.iot_server_node.proofs.Common.{kept_text, lists, next, on_both, records_in, refl, server_name, sym, true, ℕ, [], ◌++◌, ◌∙◌, ◌≡◌}
+use Rattle.iot_server_node.specs.Deciding.{Begins, DecidesBy, DecidesIfAny, DecidesPost, HasCount}
 
 -- a text that was said, also within a longer one
 pub begins_in : (text more rest : List ℕ) {x mid y said : List ℕ} → y ≡ mid ++ rest → mid ≡ x ++ said → said ≡ text ++ more

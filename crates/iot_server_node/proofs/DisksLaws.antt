@@ -1,14 +1,8 @@
 -- The server's disks, when they are restarted or armed.
-use Rattle.std.proofs.lemmas.Option.{same_Some}
-use Rattle.std.specs.Prelude.{not}
-use Rattle.iot_server_node.proofs.Common.{◌≡◌, ℕ, Bool, true, false, List, Option, Some, None, option_map, refl, ap}
-use Rattle.iot_disk.specs.Disk.{Only}
-use Rattle.iot_node.specs.Disks.{OnlyImage}
+use Rattle.{std.specs.Prelude.not, iot_server_node.proofs.Common.Bool}
+use Rattle.iot_server_node.proofs.Common.{Changes, Disks, If, List, MayLeave, MayLeaveOf, Medium, None, Only, OnlyImage, Option, Server}
+use Rattle.iot_server_node.proofs.Common.{Slots, Some, ap, disk_on, disks_in, false, on_both, option_map, refl, same_Some, true, ℕ, ◌≡◌}
 use Rattle.iot_server.specs.Servers as servers
-use Rattle.iot_slots.specs.declared.slots.Slots.{Slots}
-use Rattle.iot_server_node.specs.Disks.{MayLeave, MayLeaveOf, on_both}
-use Rattle.iot_server_node.specs.Keepers.{disks_in}
-use Rattle.iot_server_node.specs.Prelude.{Changes, Disks, If, Medium, Server, disk_on}
 
 module _ {D : Type 0} (medium : Medium D) where
   only_backup : (backup : Option D) (image : Option (List ℕ)) → If (λ b. Only (medium.reads b) (medium.may_leave b)) backup

@@ -1,29 +1,19 @@
 -- A server keeps the list of commits on its disk, a checkpoint of the first ones and a record for each of the others, as a keeper is to.
-use Rattle.std.specs.Prelude.{IfOk}
-use Rattle.iot_server_node.proofs.Common.{◌≡◌, ◌+◌, ℕ, List, [], ◌∷◌, length}
-use Rattle.iot_server_node.proofs.Common.{ap, ◌∙◌, arith, Result, Ok, Err, Option, Some, None, option_map}
-use Rattle.iot_server_node.proofs.Common.{sym, subst, inl, inr, length-append, length-map, label_of}
-use Rattle.iot_server_node.proofs.Common.{state_of, EncodesList, HasList, IsImage, AreOf, KeepsList, lists}
-use Rattle.iot_server_node.specs.Prelude.{ServerKeeper, State, Changes, If}
-use Rattle.iot_server_node.specs.Prelude.{CanFollow, StandFor, Medium, Commit, tree_after}
-use Rattle.iot_server_node.specs.Prelude.{add_commit, EachIs, EachGoes, EachStarts, EachStays, IsRenewed, MayFollow}
-use Rattle.iot_server_node.specs.Prelude.{rules}
-use Rattle.iot_server_node.specs.Prelude.{next, Decoded, Encoded, decoded}
-use Rattle.iot_server_node.specs.Prelude.{disk_on, images_of, state_on}
-use Rattle.iot_node.specs.Keeping.{CanStart, IsEither}
-use Rattle.iot_server_node.specs.Disks.{Image, MayLeave, on_both, reads_may_leave}
-use Rattle.iot_server_node.specs.Keepers.{Both, Cuts, Each, disks_in}
-use Rattle.iot_server_node.specs.Records.{AreImages, AreSo}
-use Rattle.iot_slots.specs.declared.slots.Slots.{Slots}
-use Rattle.iot_durable.specs.Standing.{MakesOf}
+use Rattle.std.proofs.{Common.Ok, lemmas.List.length-map}
+use Rattle.iot_durable.specs.Standing.{EachGoes, IsRenewed, MakesOf}
+use Rattle.iot_judging.proofs.ImagesLaws.{Cut, image_is, never_before, one_cut}
+use Rattle.iot_judging.specs.Records.{EncodesList, HasList}
+use Rattle.iot_server_node.proofs.Common.{AreImages, AreOf, AreSo, Both, CanFollow, CanStart, Changes, Commit, Cuts, EachIs, EachStarts}
+use Rattle.iot_server_node.proofs.Common.{EachStays, Encoded, Err, If, Image, IsEither, IsImage, KeepsList, List, MayFollow, MayLeave}
+use Rattle.iot_server_node.proofs.Common.{Medium, None, Option, Result, ServerKeeper, Slots, Some, StandFor, State, add_commit, ap}
+use Rattle.iot_server_node.proofs.Common.{arith, decoded, disk_on, disks_in, if_so, images_of, inl, inr, label_of, length, length-append}
+use Rattle.iot_server_node.proofs.Common.{lists, next, on_both, option_map, reads_may_leave, renewed_list, rules, second_stays}
+use Rattle.iot_server_node.proofs.Common.{state_of, state_on, store_counted, store_stays, subst, sym, tree_after, ℕ, [], ◌+◌, ◌∙◌, ◌∷◌, ◌≡◌}
+use Rattle.iot_server_node.{proofs.PairsLaws.server_so, specs.Keepers.Each, specs.Prelude.IfOk}
+use Rattle.{iot_slots.specs.Decoding.Decoded, iot_store.proofs.PartsLaws.changes_from}
+use Rattle.iot_store.proofs.{PartsLaws.changes_map, PartsLaws.if_both, StandingLaws.second_counted, StandingLaws.store_decoded}
 use Rattle.iot_server.specs.Servers as servers
 use Rattle.iot_slots.specs.Slots as slots
-use Rattle.iot_backup.proofs.PairsLaws.{if_so}
-use Rattle.iot_store.proofs.StandingLaws.{second_counted, second_stays}
-use Rattle.iot_store.proofs.StandingLaws.{store_counted, store_decoded, store_stays}
-use Rattle.iot_store.proofs.PartsLaws.{changes_from, changes_map, if_both}
-use Rattle.iot_server_node.proofs.PairsLaws.{server_so}
-use Rattle.iot_judging.proofs.ImagesLaws.{renewed_list, image_is, Cut, never_before, one_cut}
 
 -- bytes from which a server can be started stand for the state of some list
 pub stands_for : {D : Type 0} (medium : Medium D) (image : Image) → CanStart (lists medium) image

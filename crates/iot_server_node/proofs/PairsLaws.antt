@@ -1,18 +1,9 @@
 -- What two images hold, one of the server's disk and one of its backup: before a start from both, and after it.
-use Rattle.iot_server_node.proofs.Common.{ℕ, List, Option, Some, None}
-use Rattle.iot_server_node.proofs.Common.{inl, inr, arith, state_of}
-use Rattle.iot_server_node.proofs.Common.{lists}
-use Rattle.iot_backup.proofs.PairsLaws.{if_so}
-use Rattle.iot_node.specs.Keeping.{CanStart, EachIs}
+use Rattle.{iot_judging.proofs.ImagesLaws.alike_start, iot_server_node.proofs.Common.AreSo, iot_server_node.proofs.Common.CanStart}
+use Rattle.iot_server_node.proofs.Common.{Disks, EachIs, If, Image, List, MayLeave, MayLeaveOf, Medium, None, Option, ServerKeeper}
+use Rattle.iot_server_node.proofs.Common.{Some, arith, disk_on, disks_in, if_so, images_of, inl, inr, lists, next, state_of, ℕ}
+use Rattle.iot_store.{proofs.PartsLaws.if_mapped, proofs.StandingLaws.stands_one, specs.Standing.MayStart}
 use Rattle.iot_server.specs.Servers as servers
-use Rattle.iot_store.specs.Standing.{MayStart}
-use Rattle.iot_store.proofs.PartsLaws.{if_mapped}
-use Rattle.iot_store.proofs.StandingLaws.{stands_one}
-use Rattle.iot_server_node.specs.Disks.{Image, MayLeave, MayLeaveOf}
-use Rattle.iot_server_node.specs.Keepers.{disks_in}
-use Rattle.iot_server_node.specs.Prelude.{Disks, If, Medium, ServerKeeper, disk_on, images_of, next}
-use Rattle.iot_server_node.specs.Records.{AreSo}
-use Rattle.iot_judging.proofs.ImagesLaws.{alike_start}
 
 -- ---- what a start from two images needs
 

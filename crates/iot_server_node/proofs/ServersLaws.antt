@@ -1,45 +1,29 @@
 -- What a server does is what is said of it.
-use Rattle.std.proofs.Math.Nat.{mod-add-mod}
-use Rattle.iot_server_node.proofs.Common.{◌≡◌, ℕ, suc, zero, ◌+◌, ◌%◌, ◌^◌, Bool, true, false, if◌then◌else◌, List, [], ◌∷◌, ◌++◌, length}
-use Rattle.iot_server_node.proofs.Common.{drop, Option, Some, None, IsSome, refl, sym, ap, subst, ◌∙◌, arith, inl, inr}
-use Rattle.iot_server_node.proofs.Common.{slice_index_or, length-append, lists, Handles, KeepsList, ServerStands, AreOf}
-use Rattle.iot_server_node.proofs.Common.{IsImage}
-use Rattle.iot_server_node.specs.Servers.{ServerIsSound}
-use Rattle.iot_server_node.proofs.Common.{disk_of, ◌⊎◌, state_of}
-use Rattle.iot_slots.specs.declared.version.Version.TheVariants.{Two}
-use Rattle.iot_server_node.specs.Prelude.{Medium, Storing, Encoded, NotStarted, header, next, IsGrown, Leads, rules, State}
-use Rattle.iot_server_node.specs.Prelude.{Disks, If}
-use Rattle.iot_server_node.specs.Prelude.{after_commit, Label, Call, paired}
-use Rattle.iot_server_node.specs.Prelude.{Commit, add_commit, tree_after, Node, fallen, changed, back, unopened, Refines}
-use Rattle.iot_server_node.specs.Prelude.{server_name, kept_text, OpensNode, Appends, ComesBackAs, SettlesAs, Crashes, ArmsDisk}
-use Rattle.iot_server_node.specs.Prelude.{transaction_name, IsEmpty, KeepsDisk, counts_on, is_on, live_of, PostStands, HoldsBy}
-use Rattle.iot_server_node.specs.Prelude.{IsStanding, Lasts, StepsTo, Doubt, Post, Up, Down, Between, ServerKeeper, ServerNode}
-use Rattle.iot_disk.specs.declared.disk.Pick.{Pick}
-use Rattle.iot_tree.specs.declared.access.Access.{Access}
-use Rattle.iot_server.specs.Servers as servers
-use Rattle.iot_slots.specs.Decoding.{decoded}
-use Rattle.iot_server.specs.Traffic.{no_traffic}
-use Rattle.iot_machine.specs.Serving.{added_text, commit_text}
-use Rattle.iot_node.specs.Posts as posts
-use Rattle.iot_server_node.specs.Disks.{Image, MayLeave, on_both, placed}
-use Rattle.iot_server_node.specs.Keepers.{Both, traffic_in}
-use Rattle.iot_server_node.specs.Servers.{is_up, IsKnown, AreKnown, IsOneMoreIfAny, NodeIsKnown, HasAnswered}
-use Rattle.iot_server_node.specs.Servers.{HavingAnswered, IsUnopened}
-use Rattle.iot_backup.proofs.PairsLaws.{if_so}
-use Rattle.iot_server_node.proofs.CountsLaws.{kept_counts}
-use Rattle.iot_certify.specs.declared.verdict.Verdict.TheVariants.{Holds, Differs}
-use Rattle.iot_server_node.proofs.DisksLaws.{both_only}
-use Rattle.iot_server_node.proofs.KeepersLaws.{each_on, keeps_images, one_counted}
-use Rattle.iot_server_node.specs.Prelude.{CanFollow, EncodesAfter, IsAnswered, Reply, Submits}
-use Rattle.iot_store.proofs.NumbersLaws.{is_new_from}
-use Rattle.iot_store.specs.Numbers.{number_in}
-use Rattle.iot_wire.specs.declared.requests.Request.TheVariants as requests
-use Rattle.iot_server_node.proofs.PairsLaws.{both_so}
+use Rattle.std.proofs.Common.{IsSome, drop, if◌then◌else◌, slice_index_or, suc, zero, ◌%◌, ◌^◌, ◌⊎◌}
+use Rattle.{std.proofs.Math.Nat.mod-add-mod, iot_judging.proofs.ImagesLaws.empty_image, iot_judging.proofs.ImagesLaws.record_is}
 use Rattle.iot_machine.proofs.FollowsLaws.{all_as, all_push, at_push}
-use Rattle.iot_machine.proofs.KeepsLaws.{asks_then, keeps_either, keeps_does, stays_says}
+use Rattle.iot_machine.proofs.KeepsLaws.{asks_then, keeps_does, keeps_either, stays_says}
+use Rattle.iot_machine.specs.Nodes.{back, fallen, paired, unopened}
+use Rattle.iot_machine.specs.{Serving.added_text, Stops.ArmsDisk, Stops.Crashes, Stops.OpensNode, Stops.SettlesAs, Texts.transaction_name}
 use Rattle.iot_node.proofs.PostsLaws.{lasts_in as posts_lasts_in, on_is}
-use Rattle.iot_store.proofs.StandingLaws.{grown_count, store_counted}
-use Rattle.iot_judging.proofs.ImagesLaws.{empty_image, record_is, renewed_list, state_is}
+use Rattle.iot_node.specs.{Posts.IsStanding, Posts.live_of, declared.post.Post.TheVariants.Between}
+use Rattle.iot_server.specs.{Replies.EncodesAfter, Traffic.no_traffic}
+use Rattle.iot_server_node.proofs.Common.{Access, Appends, AreOf, Bool, Both, Call, CanFollow, ComesBackAs, Commit}
+use Rattle.iot_server_node.proofs.Common.{Differs, Disks, Doubt, Down, Encoded, Handles, HasAnswered, HavingAnswered, Holds, HoldsBy}
+use Rattle.iot_server_node.proofs.Common.{If, Image, IsAnswered, IsGrown, IsImage, IsKnown, IsOneMoreIfAny, KeepsDisk, KeepsList, Label}
+use Rattle.iot_server_node.proofs.Common.{Lasts, Leads, List, MayLeave, Medium, Node, NodeIsKnown, None, Option, Pick, Post, PostStands}
+use Rattle.iot_server_node.proofs.Common.{Refines, Reply, ServerIsSound, ServerKeeper, ServerNode, ServerStands, Some, State, StepsTo}
+use Rattle.iot_server_node.proofs.Common.{Storing, Submits, Two, Up, add_commit, after_commit, ap, arith, changed, commit_text, counts_on}
+use Rattle.iot_server_node.proofs.Common.{disk_of, false, header, if_so, inl, inr, is_on, is_up, kept_text, length, length-append, lists}
+use Rattle.iot_server_node.proofs.Common.{next, number_in, on_both, placed, refl, renewed_list, rules, server_name, state_is, state_of}
+use Rattle.iot_server_node.proofs.Common.{store_counted, subst, sym, traffic_in, tree_after, true, ℕ, [], ◌++◌, ◌+◌, ◌∙◌, ◌∷◌, ◌≡◌}
+use Rattle.iot_server_node.proofs.{CountsLaws.kept_counts, DisksLaws.both_only, KeepersLaws.each_on, KeepersLaws.keeps_images}
+use Rattle.iot_server_node.{proofs.KeepersLaws.one_counted, proofs.PairsLaws.both_so, specs.Prelude.IsEmpty, specs.Servers.AreKnown}
+use Rattle.{iot_server_node.specs.Servers.IsUnopened, iot_slots.specs.Decoding.NotStarted, iot_slots.specs.Decoding.decoded}
+use Rattle.iot_store.proofs.{NumbersLaws.is_new_from, StandingLaws.grown_count}
+use Rattle.iot_server.specs.Servers as servers
+use Rattle.iot_node.specs.Posts as posts
+use Rattle.iot_wire.specs.declared.requests.Request.TheVariants as requests
 
 -- nothing was started on an empty disk
 nothing_started : decoded header [] ≡ NotStarted

@@ -1,70 +1,43 @@
 -- What the server replies to a request for objects and to a submission.
-use Rattle.std.proofs.Common.{length-append}
-use Rattle.std.proofs.lemmas.Bool.{le-leb, lt-leb}
-use Rattle.std.proofs.lemmas.Bool.Decides.{nat_tests}
-use Rattle.std.proofs.lemmas.Iterator.Adapters.{position_from-zero}
-use Rattle.std.proofs.lemmas.Option.{slice_get_cases}
-use Rattle.std.specs.List.{list_any, position_from}
-use Rattle.iot_server_node.proofs.Common.{◌≡◌, ℕ, List, [], ◌++◌, length, Option, Some, refl, sym, ap, subst, ◌∙◌, inl, arith, ◌+◌}
-use Rattle.iot_server_node.proofs.Common.{Err, false, ◌-◌, true, cond, ◌∷◌, map, None, option_map, slice_get, inr, append-nil, lists}
-use Rattle.iot_server_node.proofs.Common.{Handles, KeepsList, committed_since, said_of, SpellsCut, printed_under}
-use Rattle.iot_server_node.proofs.Common.{AreOf, label_of, state_of, bind, asks, says_this, answers}
-use Rattle.iot_slots.specs.declared.version.Version.TheVariants.{Two}
-use Rattle.iot_server_node.specs.Prelude.{Medium, IsTree, IsWhole, IsAnswered, Submits, ServerKeeper, Post, UpStands, Appended, Doubts}
-use Rattle.iot_server_node.specs.Prelude.{State, CanFollow, Leads, rules, after_commit, IsMessage, IsRequest, request_spelling, Request}
-use Rattle.iot_server_node.specs.Prelude.{run_entry, Commit, add_commit, tree_after, Call, Then, Node, changed}
-use Rattle.iot_server_node.specs.Prelude.{server_name, IsErrand, Spells, Handed, Message, Served, ServerNode, ActsHold}
-use Rattle.iot_server_node.specs.Prelude.{reads_of, turns, DiffersAt, Appends, commit_line, acts_output, EachIs, StepsTo}
-use Rattle.iot_server_node.specs.Prelude.{Label, Reply, If, IsGrown, EachStarts, images_of}
-use Rattle.iot_node.specs.Keeping.{IsEither}
-use Rattle.iot_store.specs.declared.commit.Commit.{Commit as Noted}
-use Rattle.iot_server_node.specs.Disks.{MayLeave}
-use Rattle.iot_server_node.specs.Keepers.{Cuts, Refuses, disks_in}
-use Rattle.iot_server_node.specs.Disks.{on_both}
-use Rattle.iot_server_node.specs.Prelude.{Disks, PostStands, StepsFrom, is_on, kept_text}
-use Rattle.iot_server_node.proofs.CountsLaws.{failed_counts}
+use Rattle.std.proofs.Common.{cond, length-append, map, slice_get, ◌-◌}
+use Rattle.std.proofs.lemmas.{Bool.le-leb, Bool.lt-leb, Bool.Decides.nat_tests, Iterator.Adapters.position_from-zero}
+use Rattle.std.{proofs.lemmas.Option.slice_get_cases, specs.List.list_any, specs.List.position_from}
+use Rattle.iot_access.specs.Access.{IsAccess, TakesPlace, lines_of}
+use Rattle.iot_acts.specs.{Traces.ActsHold, Traces.ReadsHold, Traces.after_acts, Turns.DiffersAt, Turns.reads_of, Turns.turns}
+use Rattle.{iot_certify.proofs.AccessLaws.judges as judges_acts, iot_exec.specs.Serial.run_entry, iot_exec.specs.declared.ran.Ran.Ran}
+use Rattle.{iot_hoard.proofs.TakingLaws.pick_is, iot_hoard.specs.Picking.picked, iot_judging.proofs.JudgingLaws.access_there}
+use Rattle.iot_judging.proofs.JudgingLaws.{certified, differs_some, parts_there, parts_within, refused, same_there, takes_place_of}
+use Rattle.iot_judging.proofs.{ListsLaws.IsStamped, ListsLaws.list_stamped, RunTreesLaws.list_tree, RunTreesLaws.list_whole}
+use Rattle.iot_judging.specs.{Errands.IsErrand, Errands.changes_to, Errands.request_for, Verdicts.SpellsVerdict}
+use Rattle.iot_machine.proofs.{KeptLaws.kept_added, StepsLaws.also, StepsLaws.answers, StepsLaws.at_each, StepsLaws.at_one, StepsLaws.gets}
+use Rattle.iot_machine.{proofs.StepsLaws.quiet, proofs.StepsLaws.says_this, specs.Calls.Then}
+use Rattle.iot_machine.specs.Serving.{Conflict, Judges, Lends, Refresh, Settled, Walk, committed, lent, number_of}
+use Rattle.{iot_machine.specs.Texts.acts_output, iot_node.specs.Keeping.Appended}
+use Rattle.{iot_node.specs.Keeping.Doubts, iot_node.specs.Posts.StepsFrom, iot_node.specs.Posts.UpStands, iot_server.specs.Replies.Answers}
+use Rattle.iot_server_node.proofs.Common.{Access, Appends, AreOf, Both, Call, CanFollow, Commit, Cuts}
+use Rattle.iot_server_node.proofs.Common.{Differs, Disks, EachIs, EachStarts, Encoded, Err, Handles, HavingAnswered, Holds, If, IsAnswered}
+use Rattle.iot_server_node.proofs.Common.{IsEither, IsGrown, IsKnown, IsMessage, IsRequest, KeepsList, Label, Leads, List, MayLeave, Medium}
+use Rattle.iot_server_node.proofs.Common.{Node, None, Option, Post, PostStands, Refuses, Reply, Request, ServerIsSound, ServerKeeper}
+use Rattle.iot_server_node.proofs.Common.{ServerNode, Some, State, StepsTo, Submits, Two, add_commit, after_commit, ap, append-nil, arith}
+use Rattle.iot_server_node.proofs.Common.{asks, bind, changed, commit_text, committed_since, disks_in, false, images_of, inl, inr, is_on}
+use Rattle.iot_server_node.proofs.Common.{kept_text, label_of, length, lists, number_in, on_both, option_map, refl, request_spelling, rules}
+use Rattle.iot_server_node.proofs.Common.{server_name, state_is, state_of, subst, sym, tree_after, true, ℕ, [], ◌++◌, ◌+◌, ◌∙◌, ◌∷◌, ◌≡◌}
+use Rattle.iot_server_node.proofs.{CountsLaws.failed_counts, KeepersLaws.as_many, KeepersLaws.both_map, KeepersLaws.cut_images}
+use Rattle.iot_server_node.proofs.ServersLaws.{answered_off, known_stopped, live, recorded, stands_longer, stands_still}
+use Rattle.iot_server_node.specs.Messages.{SpellsCut, printed_under, said_of}
+use Rattle.iot_server_node.specs.Prelude.{Errand, Handed, IsTree, Stamps, Submission, commit_line, nodes_of}
+use Rattle.iot_server_node.specs.Servers.{IsHanded, IsNamedIn, ServesBy, count_of, stamps_of}
+use Rattle.iot_server_node.specs.declared.{message.Message.Message, server.Served.Served}
+use Rattle.iot_stamp.specs.Refresh.{changes_on}
+use Rattle.iot_store.{proofs.NumbersLaws.is_old_from, specs.declared.commit.Commit.Commit as Noted}
+use Rattle.iot_tree.specs.{Snapshots.has, Tree.IsWhole, Tree.Path, declared.acts.Read.Read}
+use Rattle.iot_wire.{proofs.MessagesLaws.call_one, proofs.SpellingLaws.request_laws, specs.Meanings.Spells, specs.Messages.IsOneMessage}
 use Rattle.iot_disk.specs.declared.faults.JournalFault.TheVariants as append
 use Rattle.iot_server.specs.Servers as servers
-use Rattle.iot_wire.specs.Messages.{IsOneMessage}
-use Rattle.iot_wire.proofs.MessagesLaws.{call_one}
-use Rattle.iot_wire.proofs.SpellingLaws.{request_laws}
-use Rattle.iot_machine.specs.Serving.{Refresh, Walk}
-use Rattle.iot_machine.specs.Serving.{Lends, Submission, Judges, committed, Settled, Conflict, number_of, commit_text}
-use Rattle.iot_judging.proofs.RunTreesLaws.{list_tree, list_whole}
-use Rattle.iot_hoard.proofs.TakingLaws.{pick_is}
-use Rattle.iot_hoard.specs.Picking.{picked}
-use Rattle.iot_judging.specs.Errands.{request_for}
-use Rattle.iot_server.specs.Replies.{Answers}
-use Rattle.iot_server_node.specs.Prelude.{Encoded, Errand, changes_to, lent}
-use Rattle.iot_stamp.specs.Refresh.{changes_on}
-use Rattle.iot_tree.specs.Snapshots.{has}
-use Rattle.iot_tree.specs.Tree.{Path}
-use Rattle.iot_stamp.specs.Stamps.{Stamps, nodes_of}
 use Rattle.iot_wire.specs.declared.replies.Reply.TheVariants as replies
-use Rattle.iot_judging.proofs.ListsLaws.{IsStamped, list_stamped}
-use Rattle.iot_server_node.specs.Servers.{count_of, stamps_of, ServesBy, ServerIsSound, IsKnown, HavingAnswered}
-use Rattle.iot_server_node.specs.Servers.{IsHanded, IsNamedIn}
-use Rattle.iot_server_node.proofs.KeepersLaws.{as_many, both_map, cut_images}
-use Rattle.iot_server_node.specs.Keepers.{Both}
-use Rattle.iot_server_node.proofs.ServersLaws.{answered_off, live, recorded, stands_still, stands_longer, known_stopped}
-use Rattle.iot_access.specs.Access.{IsAccess, TakesPlace, lines_of}
-use Rattle.iot_acts.specs.Traces.{ReadsHold, after_acts}
-use Rattle.iot_certify.specs.declared.verdict.Verdict.TheVariants.{Holds, Differs}
-use Rattle.iot_certify.proofs.AccessLaws.{judges as judges_acts}
-use Rattle.iot_exec.specs.declared.ran.Ran.{Ran}
-use Rattle.iot_judging.proofs.JudgingLaws.{access_there, certified, differs_some, parts_there, parts_within, refused, same_there}
-use Rattle.iot_judging.proofs.JudgingLaws.{takes_place_of}
 use Rattle.iot_machine.specs.Serving as serving
-use Rattle.iot_machine.proofs.KeptLaws.{kept_added}
-use Rattle.iot_store.proofs.NumbersLaws.{is_old_from}
-use Rattle.iot_store.specs.Numbers.{number_in}
-use Rattle.iot_tree.specs.declared.access.Access.{Access}
 use Rattle.iot_store.specs.States as store
-use Rattle.iot_tree.specs.declared.acts.Read.{Read}
 use Rattle.iot_wire.specs.declared.requests.Request.TheVariants as requests
-use Rattle.iot_judging.specs.Verdicts.{SpellsVerdict}
-use Rattle.iot_judging.proofs.ImagesLaws.{state_is}
-use Rattle.iot_machine.proofs.StepsLaws.{also, at_each, at_one, gets, quiet}
 
 -- nothing is said by a server that has as many commits as before
 nothing_said : (n : ℕ) (handed : Option Handed) → said_of (committed_since n n) handed ≡ []

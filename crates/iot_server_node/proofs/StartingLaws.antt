@@ -1,29 +1,17 @@
 -- How a server's keeper starts: from a disk and its backup, or from a disk that is alone.
-use Rattle.std.proofs.lemmas.Option.{same_Some}
-use Rattle.iot_server_node.proofs.Common.{◌≡◌, ◌+◌, ℕ, List, Option, Some, None, option_map, refl}
-use Rattle.iot_server_node.proofs.Common.{sym, ap, ◌∙◌}
-use Rattle.iot_server_node.proofs.Common.{inl, inr, IsImage, KeepsList, lists, state_of}
-use Rattle.iot_backup.specs.Parts.{IsThere}
-use Rattle.iot_backup.specs.declared.faults.TwinFault.TheVariants.{Disk as OfDisk}
-use Rattle.iot_durable.proofs.ImagesLaws.{not_both}
-use Rattle.iot_disk.specs.Disk.{Only}
-use Rattle.iot_disk.specs.declared.faults.StartFault.{StartFault}
-use Rattle.iot_durable.specs.Causes.{HasCause, HasPairCause, TakesBytes}
-use Rattle.iot_durable.specs.Standing.{EachIsBroughtUp, EachStands}
-use Rattle.iot_node.specs.Disks.{OnlyImage}
-use Rattle.iot_node.specs.Keeping.{Comes, Fails}
+use Rattle.iot_backup.specs.{Parts.IsThere, declared.faults.TwinFault.TheVariants.Disk as OfDisk}
+use Rattle.iot_durable.{proofs.ImagesLaws.not_both, specs.Causes.HasPairCause, specs.Standing.EachIsBroughtUp, specs.Standing.EachStands}
+use Rattle.{iot_durable.specs.Standing.StandWith, iot_judging.proofs.ImagesLaws.Starts, iot_judging.proofs.ImagesLaws.brought_there}
+use Rattle.iot_judging.{proofs.ImagesLaws.hold_too, proofs.ImagesLaws.kept_there, proofs.ImagesLaws.lacks_still, specs.Records.LacksCommit}
+use Rattle.{iot_node.specs.Keeping.Comes, iot_node.specs.Keeping.Fails, iot_server_node.proofs.Common.AreImages}
+use Rattle.iot_server_node.proofs.Common.{Commit, Disks, HasCause, If, Image, IsImage, KeepsList, List, MayFollow, MayLeave, Medium}
+use Rattle.iot_server_node.proofs.Common.{None, Only, OnlyImage, Option, Server, ServerKeeper, Slots, Some, StandFor, StartFault, State}
+use Rattle.iot_server_node.proofs.Common.{TakesBytes, ap, decoded, disk_on, disks_in, faults_in, header, images_of, inl, inr, lists, next}
+use Rattle.iot_server_node.proofs.Common.{on_both, option_map, other_in, reads_may_leave, records_in, refl, rules, same_Some, state_of, sym}
+use Rattle.iot_server_node.proofs.{Common.ℕ, Common.◌+◌, Common.◌∙◌, Common.◌≡◌, CountsLaws.alone_start, CountsLaws.pair_start}
+use Rattle.iot_server_node.proofs.{KeepersLaws.keeps_images, KeepersLaws.keeps_of, PairsLaws.both_so, PairsLaws.so_as}
+use Rattle.{iot_server_node.specs.Records.AreTurning, iot_store.specs.Standing.EachBrings, iot_store.specs.Standing.EachFollows}
 use Rattle.iot_server.specs.Servers as servers
-use Rattle.iot_slots.specs.declared.slots.Slots.{Slots}
-use Rattle.iot_store.specs.Standing.{EachBrings, EachFollows}
-use Rattle.iot_server_node.specs.Disks.{Image, MayLeave, faults_in, on_both, other_in, reads_may_leave}
-use Rattle.iot_server_node.specs.Keepers.{disks_in}
-use Rattle.iot_server_node.specs.Prelude.{Commit, Disks, If, MayFollow, Medium, Server, ServerKeeper, StandFor}
-use Rattle.iot_server_node.specs.Prelude.{StandWith, State, decoded, disk_on, header, images_of, next, records_in, rules}
-use Rattle.iot_server_node.specs.Records.{AreImages, AreTurning, LacksCommit}
-use Rattle.iot_server_node.proofs.CountsLaws.{alone_start, pair_start}
-use Rattle.iot_server_node.proofs.KeepersLaws.{keeps_images, keeps_of}
-use Rattle.iot_server_node.proofs.PairsLaws.{both_so, so_as}
-use Rattle.iot_judging.proofs.ImagesLaws.{Starts, hold_too, brought_there, kept_there, lacks_still}
 
 -- the second disk that is there
 pub is_there : {X : Type 0} (o : Option X) → IsThere o → (x : X) × (o ≡ Some x)

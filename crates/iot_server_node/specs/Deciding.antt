@@ -1,9 +1,10 @@
 -- If all images of the disk from which a node comes back have the record that is in doubt, or none has it, that decides whether it is kept.
-use Rattle.std.specs.Prelude.{◌≡◌, ◌⊎◌, ℕ, List, ◌++◌, Option, Some, None}
-use Rattle.iot_server_node.specs.Prelude.{Medium, server_name, stopped_line, kept_as, lost_as, Doubt, Post, Down, Comeback, Restart}
-use Rattle.iot_server_node.specs.Prelude.{Promote}
-use Rattle.iot_server_node.specs.Prelude.{Disks, ServerNode, next, records_in, words_of}
-use Rattle.iot_server_node.specs.Disks.{MayLeaveOf}
+use Rattle.std.specs.Prelude.{◌++◌, ◌≡◌, ◌⊎◌}
+use Rattle.iot_machine.specs.Texts.{kept_as, lost_as, stopped_line}
+use Rattle.{iot_node.specs.declared.comeback.Comeback.Comeback, iot_server_node.specs.Disks.MayLeaveOf}
+use Rattle.iot_server_node.specs.Prelude.{Disks, Doubt, Down, List}
+use Rattle.iot_server_node.specs.Prelude.{Medium, None, Option, Post, Promote, Restart, ServerNode, Some, next, server_name, words_of, ℕ}
+use Rattle.iot_store.specs.Standing.{records_in}
 
 -- so many records were ever appended to the bytes, as they are counted in those of a disk of this kind
 pub record HasCount (counted_in : List ℕ → ℕ) (count : ℕ) (bytes : List ℕ) : Type 0 where

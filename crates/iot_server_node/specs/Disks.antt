@@ -1,8 +1,7 @@
 -- The server's disks, and what a crash leaves of them.
-use Rattle.std.specs.Prelude.{◌≡◌, ℕ, ◌+◌, Bool, true, false, List, Option, None, Some, option_map}
-use Rattle.iot_disk.specs.Disk.{Arms, Medium, Storing, armed_with}
-use Rattle.iot_disk.specs.declared.disk.Pick.{Pick}
-use Rattle.iot_server_node.specs.declared.disks.Disks.{Disks}
+use Rattle.std.specs.Prelude.{◌+◌, ◌≡◌}
+use Rattle.iot_server_node.specs.Prelude.{Arms, Bool}
+use Rattle.iot_server_node.specs.Prelude.{Disks, List, Medium, None, Option, Pick, Some, Storing, armed_with, false, option_map, true, ℕ}
 
 -- ---- two disks as one
 

@@ -1,14 +1,15 @@
 -- For which list of commits a server stands, and how it handles a request.
-use Rattle.std.specs.Prelude.{◌≡◌, ℕ, ◌+◌, ◌%◌, ◌^◌, List, length, option_map}
-use Rattle.iot_server_node.specs.Prelude.{Medium, JournalFault, IsHandled, Commit, IsMessage, IsRequest, Changes, Encoded, If}
-use Rattle.iot_server_node.specs.Prelude.{NoneRose, OneRose}
-use Rattle.iot_server_node.specs.Prelude.{request_spelling, Keeping, ServerKeeper, Disks, EachStarts, images_of, disk_on, state_on}
+use Rattle.std.specs.Prelude.{◌%◌, ◌+◌, ◌^◌, ◌≡◌}
+use Rattle.iot_backup.specs.Parts.{Changes, NoneRose, OneRose}
+use Rattle.{iot_disk.specs.declared.faults.JournalFault.JournalFault, iot_durable.specs.Durable.images_of}
+use Rattle.{iot_judging.specs.Records.EncodesList, iot_node.specs.Keeping.Keeping, iot_server.specs.Faults.CutsOff}
+use Rattle.{iot_server.specs.Faults.LacksMemory, iot_server.specs.Replies.IsHandled, iot_server_node.specs.Disks.Image}
+use Rattle.iot_server_node.specs.Prelude.{Commit, Disks, If, IsMessage, IsRequest, List, Medium, ServerKeeper, Traffic, length, option_map}
+use Rattle.iot_server_node.specs.{Prelude.request_spelling, Prelude.state_of, Prelude.ℕ, Records.AreImages, Records.AreTurning}
+use Rattle.iot_slots.specs.{Decoding.State as Encoded, Slots.disk_of as disk_on, Slots.state_on}
+use Rattle.iot_store.specs.Standing.{EachStarts}
 use Rattle.iot_disk.specs.declared.faults.JournalFault.TheVariants as append
-use Rattle.iot_server.specs.Faults.{CutsOff, LacksMemory}
 use Rattle.iot_server.specs.Servers as servers
-use Rattle.iot_server.specs.declared.traffic.Traffic.{Traffic}
-use Rattle.iot_server_node.specs.Disks.{Image}
-use Rattle.iot_server_node.specs.Records.{AreImages, AreTurning, EncodesList, state_of}
 
 -- what was received and sent since the start
 abbrev pub traffic_in : {D : Type 0} → ServerKeeper D → Traffic

@@ -1,10 +1,10 @@
 -- Messages between a client and the server, and what they say.
-use Rattle.std.specs.Prelude.{◌≡◌, ℕ, ◌++◌, List, [], leb, if◌then◌else◌, Option, Some, None}
-use Rattle.iot_server_node.specs.Prelude.{Nodes, IsTree, IsWhole, IsMessage, IsRequest, request_spelling, Request, Errand, lent, changes_to}
-use Rattle.iot_server_node.specs.Prelude.{commit_line, Handed, Spells}
+use Rattle.std.specs.Prelude.{if◌then◌else◌, leb, ◌++◌, ◌≡◌}
+use Rattle.{iot_judging.specs.Errands.changes_to, iot_machine.specs.Serving.lent}
+use Rattle.iot_server_node.specs.Prelude.{Errand, Handed, IsMessage, IsRequest, IsTree}
+use Rattle.iot_server_node.specs.Prelude.{List, Nodes, None, Option, Some, Stamps, commit_line, name_of, nodes_of, request_spelling, ℕ, []}
+use Rattle.{iot_tree.specs.Tree.IsWhole, iot_wire.specs.Meanings.Spells, iot_wire.specs.declared.requests.Request.Request}
 use Rattle.iot_wire.specs.declared.replies.Reply.TheVariants as replies
-use Rattle.iot_stamp.specs.Stamps.{Stamps, nodes_of}
-use Rattle.iot_node.specs.Lines.{name_of}
 
 -- ---- requests
 

@@ -1,12 +1,10 @@
 -- What the server's disks keep of the machine's list: a checkpoint of its first commits, and a record for each of the others.
-use Rattle.std.specs.Prelude.{◌⊎◌, ℕ, List, Option, None, Some}
-use Rattle.iot_server_node.specs.Prelude.{Storing, State, Commit, If, next}
-use Rattle.iot_server_node.specs.Prelude.{StandFor, rules, Leads}
-use Rattle.iot_slots.specs.declared.version.Version.TheVariants.{Two}
+use Rattle.std.specs.Prelude.{◌⊎◌}
 use Rattle.iot_server_node.specs.Disks.{Image}
-pub use Rattle.iot_judging.specs.Lists.{stamps_from, state_of}
-pub use Rattle.iot_judging.specs.Records.{EncodesList, HasList, IsImage, LacksCommit, records_from}
-pub use Rattle.iot_machine.specs.Recorded.{label_of}
+use Rattle.iot_server_node.specs.Prelude.{Commit, If, Leads, List, None, Option, Some, State, Storing, Two, next, rules, ℕ}
+use Rattle.iot_store.specs.Standing.{StandFor}
+pub use Rattle.iot_judging.specs.{Lists.stamps_from, Lists.state_of, Records.EncodesList, Records.HasList, Records.IsImage}
+pub use Rattle.{iot_judging.specs.Records.LacksCommit, iot_judging.specs.Records.records_from, iot_machine.specs.Recorded.label_of}
 
 -- ---- of both disks
 

@@ -1,28 +1,24 @@
 -- The server as a node, alive or down: for which node of the machine it stands, and what it does.
-use Rattle.std.specs.Prelude.{◌≡◌, ℕ, ◌+◌, ◌<◌, ◌%◌, ◌^◌, Bool, true, false, List, [], ◌∷◌, ◌++◌, length, map, Option, Some, None, IsSome}
-use Rattle.std.specs.Prelude.{slice_index_or, option_map, is_some}
 use Rattle.std.specs.List.{AllByRecursion}
+use Rattle.std.specs.Prelude.{IsSome, map, slice_index_or, ◌%◌, ◌++◌, ◌+◌, ◌<◌, ◌^◌, ◌∷◌, ◌≡◌}
 use Rattle.iot_access.specs.Access.{access_of, lines_of}
-use Rattle.iot_tree.specs.declared.access.Access.{Access}
-use Rattle.iot_server_node.specs.Prelude.{Nodes, IsTree, Act, Label, reads_of, Medium, run_entry, Call, Commit, tree_after}
-use Rattle.iot_server_node.specs.Prelude.{Node, server_name, kept_text, transaction_name, acts_output, IsEmpty}
-use Rattle.iot_server_node.specs.Prelude.{PostStands, is_on, StepsTo, Doubt, Post, Up, Down, Server}
-use Rattle.iot_server_node.specs.Prelude.{IsMessage, IsRequest, request_spelling, ServerKeeper, Handed, Message, Served, ServerNode, Leads}
-use Rattle.iot_server_node.specs.Prelude.{Arms, ComesBackAs, Disks, KeepsDisk, armed, armed_with, arming_as, promote_words}
-use Rattle.iot_disk.specs.declared.disk.Pick.{Pick}
-use Rattle.iot_slots.specs.declared.version.Version.TheVariants.{Two}
-use Rattle.iot_server_node.specs.Prelude.{If, State, live_of, opening, rules}
-use Rattle.iot_judging.specs.Entries.{IsSpelledEntry}
-use Rattle.iot_machine.specs.Serving.{Submission}
+use Rattle.{iot_acts.specs.Turns.reads_of, iot_exec.specs.Serial.run_entry, iot_judging.specs.Entries.IsSpelledEntry}
+use Rattle.iot_machine.specs.{Calls.Call, Nodes.armed, Nodes.arming_as, Recorded.label_of, Stops.ComesBackAs}
+use Rattle.iot_machine.specs.Texts.{acts_output, promote_words, transaction_name}
+use Rattle.iot_node.specs.{Posts.PostStands, Posts.is_on, Posts.live_of, declared.lines.Transaction.Transaction}
+use Rattle.{iot_node.specs.declared.post.Post.TheVariants.Up, iot_server.specs.declared.server.Server.Server}
+use Rattle.iot_server_node.specs.Disks.{IsPlaced, on_both, placed, sides, sides_of, turned}
+use Rattle.iot_server_node.specs.{Keepers.disks_in, Keepers.lists, Keepers.traffic_in, Messages.said_of}
+use Rattle.iot_server_node.specs.Prelude.{Arms, Bool, Commit, Disks, Doubt, Down, Handed, If, IsEmpty, IsMessage, IsRequest}
+use Rattle.iot_server_node.specs.Prelude.{IsTree, KeepsDisk, Leads, List, Medium, Node, Nodes, None, Option, Pick, Post, ServerKeeper}
+use Rattle.iot_server_node.specs.Prelude.{ServerNode, Some, Stamps, State, StepsTo, Submission, Two, armed_with, false, is_some, kept_text}
+use Rattle.iot_server_node.specs.Prelude.{length, option_map, request_spelling, rules, server_name, state_of, tree_after, true, ℕ, []}
+use Rattle.iot_server_node.specs.{Records.DiskGoesOn, declared.message.Message.Message, declared.server.Served.Served}
+use Rattle.iot_store.specs.States.{opening}
+use Rattle.iot_tree.specs.declared.{access.Access.Access, acts.Act.Act, labels.Label.Label}
 use Rattle.iot_node.specs.Posts as posts
-use Rattle.iot_node.specs.declared.lines.Transaction.{Transaction}
 use Rattle.iot_server.specs.Servers as servers
 use Rattle.iot_wire.specs.declared.requests.Request.TheVariants as requests
-use Rattle.iot_stamp.specs.Stamps.{Stamps}
-use Rattle.iot_server_node.specs.Disks.{IsPlaced, on_both, placed, sides, sides_of, turned}
-use Rattle.iot_server_node.specs.Keepers.{disks_in, lists, traffic_in}
-use Rattle.iot_server_node.specs.Messages.{said_of}
-use Rattle.iot_server_node.specs.Records.{DiskGoesOn, label_of, state_of}
 
 -- ---- what it has
 

@@ -1,7 +1,7 @@
 //! The server's disks.
-ghost use Rattle.std.specs.Prelude.{◌≡◌, false, is_some};
-ghost use Rattle.iot_node.specs.Disks.{KeepsImages, OnlyImage};
-ghost use Rattle.iot_node.specs.Keeping.{Armed};
+ghost use Rattle.std.specs.Prelude.{◌≡◌};
+ghost use Rattle.iot_node.specs.{Disks.KeepsImages, Disks.OnlyImage, Keeping.Armed};
+ghost use Rattle.iot_server_node.specs.Prelude.{false, is_some};
 
 use iot_disk::{Disk, Pick};
 use std::mem;

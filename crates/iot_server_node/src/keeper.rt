@@ -1,14 +1,10 @@
 //! What keeps the list of commits on the server's disks.
-ghost use Rattle.std.specs.Prelude.{◌≡◌, Some, None, IfOk, IfErr};
+ghost use Rattle.std.specs.Prelude.{◌≡◌};
 ghost use Rattle.iot_backup.specs.declared.faults.TwinFault.TheVariants.{Disk as OfDisk};
-ghost use Rattle.iot_disk.specs.Disk.{Only};
-ghost use Rattle.iot_durable.specs.Causes.{TakesBoth};
-ghost use Rattle.iot_node.specs.Disks.{KeepsDisk};
+ghost use Rattle.{iot_disk.specs.Disk.Only, iot_durable.specs.Causes.TakesBoth};
 ghost use Rattle.iot_node.specs.Keeping.{CanStart, Comes, Fails};
-ghost use Rattle.iot_server.specs.Servers.{IsSynced};
-ghost use Rattle.iot_server.specs.Traffic.{no_traffic};
-ghost use Rattle.iot_server.specs.declared.traffic.Traffic.{Traffic};
-ghost use Rattle.iot_server_node.specs.Messages.{IsSomeRequest};
+ghost use Rattle.{iot_server.specs.Servers.IsSynced, iot_server.specs.Traffic.no_traffic, iot_server_node.specs.Messages.IsSomeRequest};
+ghost use Rattle.iot_server_node.specs.Prelude.{IfErr, IfOk, KeepsDisk, None, Some, Traffic};
 
 use crate::disks::Disks;
 use iot_backup::TwinFault;
@@ -26,10 +22,9 @@ pub struct ServerKeeper<D: Disk> {
 }
 
 impl<D: Disk> ServerKeeper<D> {
-    ghost use Rattle.iot_machine.specs.Machine.{Commit};
-    ghost use Rattle.std.specs.Prelude.{ℕ, List};
     ghost use Rattle.iot_server_node.specs.Disks.{ArmsOther, IsPlaced, on_both, sides_of};
     ghost use Rattle.iot_server_node.specs.Keepers.{Handles, Refuses, disks_in, lists, traffic_in};
+    ghost use Rattle.iot_server_node.specs.Prelude.{Commit, List, ℕ};
 
     /// What the server replies to a request that is well formed. It has no reply only if there is no memory, or a disk fails.
     pub(crate) fn handle(&mut self, alloc: Global, request: &[u8]) -> Result<Vec<u8>, JournalFault>
@@ -65,9 +60,7 @@ impl<D: Disk> ServerKeeper<D> {
 
 impl<D: Disk> Keeper<Disks<D>> for ServerKeeper<D> {
     ghost use Rattle.iot_server_node.specs.Disks.{Image as DisksImage, Sides, on_both, reads_may_leave, sides_of};
-    ghost use Rattle.iot_server_node.specs.Keepers.{lists, traffic_in};
-    ghost use Rattle.iot_machine.specs.Machine.{Commit};
-    ghost use Rattle.std.specs.Prelude.{List};
+    ghost use Rattle.iot_server_node.specs.{Keepers.lists, Keepers.traffic_in, Prelude.Commit, Prelude.List};
 
     ghost Kept = { List Commit };
 

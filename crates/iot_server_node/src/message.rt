@@ -1,6 +1,6 @@
 //! What a client sends to the server.
-ghost use Rattle.std.specs.Prelude.{◌≡◌, ◌++◌, OnOk};
-ghost use Rattle.iot_server_node.specs.Messages.{printed_under};
+ghost use Rattle.std.specs.Prelude.{◌++◌, ◌≡◌};
+ghost use Rattle.iot_server_node.specs.{Messages.printed_under, Prelude.OnOk};
 
 use crate::texts::say_commit;
 use iot_node::Printed;

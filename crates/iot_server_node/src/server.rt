@@ -1,22 +1,18 @@
 //! The server as a node: it answers requests as long as it is alive.
-ghost use Rattle.std.specs.Prelude.{◌≡◌, ◌⊎◌, ◌+◌, ◌<◌, ◌^◌, ◌++◌, [], ℕ, Bool, List, true, false, Some, codes, is_some};
-ghost use Rattle.std.specs.Prelude.{IfOk, IfErr, OnOk, IfSome};
 ghost use Rattle.std.specs.Option.{option_copied};
-ghost use Rattle.iot_disk.specs.declared.faults.JournalFault.TheVariants.{Stopped};
+ghost use Rattle.std.specs.Prelude.{IfSome, codes, ◌++◌, ◌+◌, ◌<◌, ◌^◌, ◌≡◌, ◌⊎◌};
+ghost use Rattle.{iot_disk.specs.declared.faults.JournalFault.TheVariants.Stopped, iot_judging.specs.Errands.IsErrand};
+ghost use Rattle.iot_machine.specs.{Machine.add_commit, Nodes.doubting, Nodes.paired, Nodes.unopened, Serving.Judges, Serving.Lends};
+ghost use Rattle.iot_machine.specs.{Serving.backup_name, Stops.ArmsDisk, Stops.Crashes, Stops.OpensNode, Stops.Restarts, Stops.Shows};
 ghost use Rattle.iot_machine.specs.Texts.{line, stop_line, tree_text};
-ghost use Rattle.iot_server_node.specs.Prelude.{Commit, add_commit, tree_after, Node, unopened, doubting, Submission, Lends, Judges};
-ghost use Rattle.iot_server_node.specs.Prelude.{server_name, backup_name, kept_text, OpensNode, Crashes, Restarts, ArmsDisk, Shows};
-ghost use Rattle.iot_server_node.specs.Prelude.{IsEmpty};
-ghost use Rattle.iot_server_node.specs.Prelude.{IsErrand, Errand, paired};
-ghost use Rattle.iot_server_node.specs.Prelude.{KeepsDisk, counts_on, Lasts, CameIf, StepsTo, words_of, Promote, Restart};
+ghost use Rattle.iot_node.specs.{Disks.counts_on, Posts.CameIf, Posts.Lasts};
+ghost use Rattle.iot_server_node.specs.Prelude.{Bool, Commit};
+ghost use Rattle.iot_server_node.specs.Prelude.{Errand, IfErr, IfOk, IsEmpty, KeepsDisk, List, Node, OnOk, Promote, Restart, Some, StepsTo};
+ghost use Rattle.iot_server_node.specs.Prelude.{Submission, false, is_some, kept_text, server_name, tree_after, true, words_of, ℕ, []};
 ghost use Rattle.iot_server.specs.Servers as servers;
-ghost use Rattle.iot_server_node.specs.Deciding.{DecidesServer};
-ghost use Rattle.iot_server_node.specs.Disks.{on_both, placed};
-ghost use Rattle.iot_server_node.specs.Keepers.{disks_in, lists};
-ghost use Rattle.iot_server_node.specs.Messages.{committed_since, printed_under};
-ghost use Rattle.iot_server_node.specs.Records.{KeepsRecords};
-ghost use Rattle.iot_stamp.specs.Stamps.{Stamps, nodes_of};
-ghost use Rattle.iot_text.specs.Texts.{Extends};
+ghost use Rattle.iot_server_node.specs.{Deciding.DecidesServer, Disks.on_both, Disks.placed, Keepers.disks_in};
+ghost use Rattle.iot_server_node.specs.{Keepers.lists, Messages.committed_since, Messages.printed_under, Prelude.Stamps, Prelude.nodes_of};
+ghost use Rattle.{iot_server_node.specs.Records.KeepsRecords, iot_text.specs.Texts.Extends};
 
 use crate::disks::Disks;
 use crate::keeper::ServerKeeper;
@@ -47,12 +43,10 @@ pub struct Served {
 impl<D: Disk> ServerNode<D> {
     ghost use Rattle.iot_judging.specs.Verdicts.{SpellsVerdict};
     ghost use Rattle.iot_server_node.specs.Messages.{IsSomeRequest, SpellsCut};
-    ghost use Rattle.iot_server_node.specs.Servers.{is_up, disk_of, post_of, count_of, stamps_of, lent_of, ServerStands};
-    ghost use Rattle.iot_server_node.specs.Servers.{HavingAnswered};
-    ghost use Rattle.iot_server_node.specs.Servers.{ServerIsSound, IsUnopened, HasBackup, HasDisk, ServesBy};
-    ghost use Rattle.iot_server_node.specs.Servers.{IsHanded, IsNamedIn, LendsServer, KeepsCommits, answered_since};
-    ghost use Rattle.iot_server_node.specs.Servers.{is_promoted, turned_post, IsBeside, HasOther, HasDisks, KeepsBeside, Promotes};
-    ghost use Rattle.iot_server_node.specs.Servers.{ArmsServersBackup, TurnsToBackup};
+    ghost use Rattle.iot_server_node.specs.Servers.{ArmsServersBackup, HasBackup, HasDisk, HasDisks, HasOther, HavingAnswered};
+    ghost use Rattle.iot_server_node.specs.Servers.{IsBeside, IsHanded, IsNamedIn, IsUnopened, KeepsBeside, KeepsCommits, LendsServer};
+    ghost use Rattle.iot_server_node.specs.Servers.{Promotes, ServerIsSound, ServerStands, ServesBy, TurnsToBackup, answered_since};
+    ghost use Rattle.iot_server_node.specs.Servers.{count_of, disk_of, is_promoted, is_up, lent_of, post_of, stamps_of, turned_post};
 
     /// A server on an empty disk, of which another empty one is the backup. It was never started.
     pub fn unopened(first: D, backup: D) -> ServerNode<D>

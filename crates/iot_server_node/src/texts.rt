@@ -1,7 +1,7 @@
 //! The lines that the server prints.
-ghost use Rattle.std.specs.Prelude.{◌≡◌, ◌++◌, OnOk};
-ghost use Rattle.iot_machine.specs.Texts.{commit_line, way_text};
-ghost use Rattle.iot_node.specs.Lines.{name_of};
+ghost use Rattle.std.specs.Prelude.{◌++◌, ◌≡◌};
+ghost use Rattle.iot_machine.specs.Texts.{way_text};
+ghost use Rattle.iot_server_node.specs.Prelude.{OnOk, commit_line, name_of};
 
 use crate::message::Handed;
 use iot_text::{NoMemory, Text};

@@ -1,11 +1,12 @@
 -- Of events that are declared the next one may come, and those behind it stay declared.
-use Rattle.iot_world.proofs.Common.{◌≡◌, ℕ, ◌+◌, ◌<◌, List, [], ◌∷◌, length, drop, slice_index_or, sym, ap, subst, ◌∙◌, drop_more}
-use Rattle.iot_world.proofs.Common.{DeclaredOn, client_count, script_names}
-use Rattle.iot_world.specs.Prelude.{AreDeclared, ClientEventIsDeclared, ClientEvent, Event, Profile, World}
+use Rattle.std.proofs.lemmas.List.{drop_more}
+use Rattle.iot_event.specs.{Declarations.ClientEventIsDeclared, declared.event.ClientEvent.ClientEvent}
+use Rattle.iot_world.proofs.Common.{Event, List, Profile, World, ap}
+use Rattle.iot_world.proofs.Common.{client_count, drop, length, script_names, slice_index_or, subst, sym, ℕ, [], ◌+◌, ◌<◌, ◌∙◌, ◌∷◌, ◌≡◌}
+use Rattle.iot_world.specs.{Allowed.IsAllowed, Allowed.MayBefall, Prelude.AreDeclared, World.DeclaredOn}
 use Rattle.iot_event.specs.declared.event.ClientEvent.TheVariants as client_events
 use Rattle.iot_event.specs.declared.event.Event.TheVariants as events
 use Rattle.iot_event.specs.declared.event.Task.TheVariants as tasks
-use Rattle.iot_world.specs.Allowed.{IsAllowed, MayBefall}
 
 -- what a client may be asked, if it says what it may say
 may_befall : (what : ClientEvent ℕ Profile) (scripts : ℕ) → ClientEventIsDeclared what scripts → MayBefall what scripts

@@ -1,10 +1,8 @@
 -- What each image of the server's disks begins with.
-use Rattle.iot_world.proofs.Common.{◌||◌, Bool, true, false, List, Some, None, refl, ℕ}
-use Rattle.iot_world.specs.Prelude.{Medium, Image, placed, on_both, Commit, DiskGoesOn, EachGoesOn, GoesOnFrom, ServerNode}
-use Rattle.iot_world.specs.Prelude.{HasPlaces, disk_of}
-use Rattle.iot_world.proofs.PlacesLaws.{places_have}
 use Rattle.iot_judging.specs.Lists.{state_of}
-use Rattle.iot_world.specs.Disks.{ServerBegins}
+use Rattle.iot_server_node.specs.Records.{DiskGoesOn, EachGoesOn, GoesOnFrom}
+use Rattle.iot_world.proofs.Common.{Bool, Commit, HasPlaces, Image, List, Medium, None, ServerBegins, ServerNode, Some, disk_of, false}
+use Rattle.iot_world.proofs.{Common.on_both, Common.placed, Common.refl, Common.true, Common.ℕ, Common.◌||◌, PlacesLaws.places_have}
 
 -- an image of the first disk, and one of the last
 abbrev pub pair_of : (one other : List ℕ) → Image

@@ -1,19 +1,27 @@
 -- The words of which the laws of this crate speak.
-pub use Rattle.std.proofs.Common.{Bool, Bor, Err, IfSome, List, None, Ok, OnOk, Option, Result, Some, [], ap, append_assoc, arith, bytes_eq}
-pub use Rattle.std.proofs.Common.{codes, cond, drop, false, get_or, inl, inr, length, map, refl, rules, slice_get, slice_index_or}
-pub use Rattle.std.proofs.Common.{slice_set, subst, suc, sym, take, true, zero, ℕ, ◌++◌, ◌+◌, ◌<◌, ◌||◌, ◌∙◌, ◌∷◌, ◌≡◌, ◌≤◌, ◌⊎◌}
-pub use Rattle.std.proofs.Math.Seq.{get_or-append_seam, map-set_same, set-append_seam}
-pub use Rattle.std.proofs.lemmas.List.{append-nil, drop_more, length-append, length-map, length-set, map-append, map_more, take_all}
-pub use Rattle.iot_laptop.proofs.NodesLaws.{awake_stands, fallen_stands, lent_at, node_stands, same_name, some_awake}
-pub use Rattle.iot_machine.proofs.FollowsLaws.{all_as, all_push, all_set}
-pub use Rattle.iot_machine.proofs.SoundLaws.{sound_event, sound_opening}
-pub use Rattle.iot_machine.proofs.StepsLaws.{asks, bind, says, says_this}
-pub use Rattle.iot_server_node.proofs.BeginningLaws.{commits_kept, commits_same, image_goes_on, own_goes_on, stands_go_on}
-pub use Rattle.iot_server_node.proofs.ServersLaws.{has_disk, lasts, more_names, up_is}
-pub use Rattle.iot_store.specs.Store.{state_of}
-pub use Rattle.iot_world.specs.Disks.{AreFresh, IsUnarmed}
-pub use Rattle.iot_world.specs.Holding.{DisksHold, Holds, IsKept, IsListed, KeepsClient, running_kept, state_kept}
-pub use Rattle.iot_world.specs.World.{AreLast, ArePlaced, AreUnarmed, ClientIs, DeclaredOn, DeclaresClient, Each, EventSteps}
-pub use Rattle.iot_world.specs.World.{GivesBack, IsReady, IsWorldOfSome, KeepsDisks, KeepsNode, LaptopHasDisk, LendsClient, LendsServer}
-pub use Rattle.iot_world.specs.World.{MakesStep, Opens, SameArms, StandsFor, Starts, UnlessArmed, client_count, disks_of}
-pub use Rattle.iot_world.specs.World.{script_names, scripts_of, with_clients, with_first}
+pub use Rattle.std.proofs.Common.{Bool, List, None, Option, Some, ap, arith, codes, drop, false, inl, inr, length, map, refl, rules}
+pub use Rattle.std.proofs.Common.{slice_get, slice_index_or, slice_set, subst, suc, sym, take, true, zero, ℕ, [], ◌++◌, ◌+◌, ◌<◌, ◌||◌, ◌∙◌}
+pub use Rattle.std.proofs.{Common.◌∷◌, Common.◌≡◌, Common.◌≤◌, Common.◌⊎◌, lemmas.Bool.or_parts}
+pub use Rattle.std.proofs.lemmas.{List.append-nil, List.length-append, List.length-map, List.length-set, List.map-append, Option.same_Some}
+pub use Rattle.std.specs.{List.AllZip as Each, Option.option_map, Prelude.Err, Prelude.IfErr, Prelude.Ok, Prelude.Result, Prelude.Vec}
+pub use Rattle.{std.specs.Prelude.is_some, std.specs.declared.alloc.Global.Global, iot_disk.specs.Disk.Arms}
+pub use Rattle.iot_exchange.{proofs.TransactionsLaws.queue_are, specs.declared.declared.DeclaredScript.DeclaredScript}
+pub use Rattle.{iot_judging.proofs.FollowingLaws.follows_kept, iot_kept.specs.States.State}
+pub use Rattle.iot_laptop.specs.{Laptops.stamps_in, Seats.IsClientImage, Seats.seating, declared.seated.Seated.Seated}
+pub use Rattle.iot_machine.proofs.StepsLaws.{at_each, does, quiet, says}
+pub use Rattle.iot_machine.specs.{Calls.Call, Calls.Says, Calls.either, Clients.ClientState}
+pub use Rattle.iot_machine.specs.{Events.names_in, Events.node_part, Machine.client_at, Machine.client_in, Machine.no_client, Nodes.Counts}
+pub use Rattle.iot_machine.specs.{Nodes.Node, Nodes.paired, Refining.StepsTo, Serving.kept_text, Serving.server_name, Texts.line}
+pub use Rattle.iot_node.specs.{Disks.counts_on, Posts.PostStands, Prelude.next, declared.post.Post.Post}
+pub use Rattle.iot_node.specs.declared.post.Post.TheVariants.{Between, Down, Up}
+pub use Rattle.iot_server_node.{proofs.BeginningLaws.commits_same, specs.Disks.Image, specs.Disks.on_both}
+pub use Rattle.iot_server_node.specs.{Disks.placed, Keepers.lists, Servers.HavingAnswered, Servers.IsBeside, Servers.IsOneMoreIfAny}
+pub use Rattle.iot_server_node.specs.{Servers.KeepsBeside, Servers.KeepsCommits, Servers.is_up, declared.keeper.ServerKeeper.ServerKeeper}
+pub use Rattle.{iot_server_node.specs.declared.server.ServerNode.ServerNode, iot_store.specs.Store.state_of}
+pub use Rattle.{iot_tree.specs.Profiles.Profile, iot_world.specs.Disks.HasEnds, iot_world.specs.Disks.ServerBegins}
+pub use Rattle.iot_world.specs.{Disks.other_of, Disks.with_ends, Prelude.AllByRecursion, Prelude.Client, Prelude.ClientStands}
+pub use Rattle.iot_world.specs.Prelude.{Commit, Declared, Disks, Event, Extends, HasPlaces, KeepsDisk, KeepsTrails, Laptop, Machine}
+pub use Rattle.iot_world.specs.Prelude.{Medium, NodeEvent, OnOk, Refines, ServerStands, StandsAnyhow, World, disk_in, disk_of, event_part}
+pub use Rattle.iot_world.specs.{Prelude.is_promoted, Prelude.vec_capacity, Prelude.vec_len, World.ArePlaced, World.ClientIs}
+pub use Rattle.iot_world.specs.World.{IsWorldOfSome, KeepsDisks, KeepsNode, LaptopHasDisk, LeavesDisks, MakesStep, Opens, SameArms}
+pub use Rattle.iot_world.specs.World.{StandsFor, StandsIn, client_count, disks_of, script_names, with_clients, with_first, with_server}

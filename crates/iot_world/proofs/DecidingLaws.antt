@@ -1,25 +1,17 @@
 -- What is said of a record in doubt is decided by its images, whatever it is added to.
-use Rattle.std.proofs.lemmas.Option.{same_Some}
-use Rattle.iot_world.proofs.Common.{false}
-use Rattle.iot_world.proofs.Common.{◌≡◌, ℕ, true, List, [], length, ◌<◌, slice_index_or}
-use Rattle.iot_world.proofs.Common.{refl, sym, ap, subst, ◌∙◌, ClientIs}
-use Rattle.iot_world.specs.Prelude.{Medium, Event, NodeEvent, Declared, ClientState, Client, Node, server_name, is_fallen, CameIf}
-use Rattle.iot_world.specs.Prelude.{Post, Down, lists, Came, ClientStands, StandsAnyhow, Result, Ok, Err, OnOk, IsClientImage, seating}
-use Rattle.iot_world.specs.Prelude.{Laptop, Seated, World, words_of}
-use Rattle.iot_node.specs.Prelude.{next}
-use Rattle.iot_node.specs.declared.comeback.Comeback.TheVariants.{Promote, Restart}
+use Rattle.{iot_kept.specs.Standing.records_in, iot_laptop.specs.Calls.Came, iot_node.specs.Posts.CameIf, iot_node.specs.Posts.is_fallen}
+use Rattle.iot_node.specs.{Posts.words_of, declared.comeback.Comeback.TheVariants.Promote, declared.comeback.Comeback.TheVariants.Restart}
+use Rattle.iot_server_node.{proofs.DecidingLaws.decides_post, specs.Deciding.DecidesPost, specs.Deciding.DecidesServer}
+use Rattle.{iot_server_node.specs.Deciding.HasCount, iot_server_node.specs.Servers.post_of, iot_text.proofs.TextsLaws.extends_nothing}
+use Rattle.iot_world.proofs.Common.{Client, ClientIs, ClientStands, ClientState, Commit, Declared}
+use Rattle.iot_world.proofs.Common.{Down, Err, Event, Extends, IsClientImage, Laptop, List, Medium, Node, NodeEvent, Ok, OnOk, Post}
+use Rattle.iot_world.proofs.Common.{Result, Seated, ServerStands, StandsAnyhow, World, ap, false, is_promoted, is_up, length, lists, next}
+use Rattle.iot_world.proofs.Common.{on_both, refl, same_Some, seating, server_name, slice_index_or, subst, sym, true, ℕ, [], ◌<◌, ◌∙◌, ◌≡◌}
+use Rattle.iot_world.{proofs.ListLaws.looked_up, specs.Allowed.arms_a_disk}
+use Rattle.iot_world.specs.Deciding.{ClientDecides, Decides, DecidesClient, DecidesComeback, DecidesIn, post_for}
 use Rattle.iot_event.specs.declared.event.ClientEvent.TheVariants as client_events
 use Rattle.iot_event.specs.declared.event.Event.TheVariants as events
 use Rattle.iot_event.specs.declared.event.NodeEvent.TheVariants as nodes
-use Rattle.iot_kept.specs.Standing.{records_in}
-use Rattle.iot_server_node.specs.Deciding.{HasCount, DecidesPost, DecidesServer}
-use Rattle.iot_server_node.proofs.DecidingLaws.{decides_post}
-use Rattle.iot_text.specs.Texts.{Extends}
-use Rattle.iot_text.proofs.TextsLaws.{extends_nothing}
-use Rattle.iot_world.specs.Allowed.{arms_a_disk}
-use Rattle.iot_world.specs.Deciding.{DecidesClient, DecidesComeback, ClientDecides, Decides, DecidesIn, post_for}
-use Rattle.iot_world.specs.Prelude.{Commit, ServerStands, is_promoted, is_up, on_both, post_of}
-use Rattle.iot_world.proofs.ListLaws.{looked_up}
 
 -- an image of a client has as many records as are counted in it
 many_there : (bytes : List ℕ) (n : ℕ) (m : ClientState) (count : ℕ) → IsClientImage bytes n m → HasCount records_in count bytes

@@ -1,41 +1,33 @@
 -- A new world is that of a machine that has opened, and what is declared in a world is declared in the machine.
-use Rattle.iot_client.specs.Messages.{nothing_held}
+use Rattle.std.proofs.{Common.bytes_eq, Math.Seq.get_or-append_seam, Math.Seq.set-append_seam, Math.Seq.take-append_seam}
+use Rattle.std.proofs.lemmas.{List.Folds.find-append, Slice.Eq.bytes_eq-Decides}
+use Rattle.{iot_client.specs.Messages.nothing_held, iot_event.specs.Meanings.is_declared}
+use Rattle.{iot_exchange.proofs.FollowingLaws.follows_nothing, iot_exchange.specs.Scripts.script_of, iot_lang.specs.Code.Code}
+use Rattle.iot_laptop.specs.Laptops.{FallenStands, awake, fallen, unopened_laptop}
+use Rattle.iot_machine.proofs.{FollowsLaws.all_push, SoundLaws.sound_opening}
+use Rattle.iot_machine.proofs.StepsLaws.{at_one, joined as one_then, nothing, says_this}
+use Rattle.iot_machine.specs.{Calls.goes_on, Events.Declares, Events.add_client, Events.client_of, Machine.first_of}
+use Rattle.iot_machine.specs.{Machine.handed, Machine.last_of, Nodes.no_counts, Nodes.unopened, Stops.OpensNode, Transcript.Opening}
+use Rattle.{iot_node.specs.Disks.IsEmpty, iot_server_node.proofs.ServersLaws.more_names}
+use Rattle.iot_standing.{proofs.ScriptsLaws.if_more, proofs.ScriptsLaws.named_more, proofs.ScriptsLaws.state_more, specs.Scripts.AreApart}
+use Rattle.{iot_standing.specs.Scripts.IsNamed, iot_standing.specs.Scripts.script_named, iot_world.proofs.BeginsLaws.begins_there}
+use Rattle.iot_world.proofs.Common.{AllByRecursion, ArePlaced, Bool, ClientStands, Commit}
+use Rattle.iot_world.proofs.Common.{Counts, Declared, DeclaredScript, Each, Err, Global, HasEnds, HavingAnswered, IsBeside, IsWorldOfSome}
+use Rattle.iot_world.proofs.Common.{KeepsBeside, KeepsCommits, KeepsDisk, KeepsTrails, Laptop, LaptopHasDisk, LeavesDisks, List, Machine}
+use Rattle.iot_world.proofs.Common.{MakesStep, Medium, None, Ok, OnOk, Opens, Refines, Result, Says, ServerBegins, ServerNode, ServerStands}
+use Rattle.iot_world.proofs.Common.{Some, StandsFor, StandsIn, StepsTo, Vec, World, ap, append-nil, arith, at_each, client_at, client_count}
+use Rattle.iot_world.proofs.Common.{client_in, counts_on, disk_in, disk_of, does, drop, event_part, false, follows_kept, is_some}
+use Rattle.iot_world.proofs.Common.{length, length-append, length-map, map, map-append, names_in, no_client, on_both, or_parts, paired}
+use Rattle.iot_world.proofs.Common.{placed, quiet, refl, rules, script_names, server_name, slice_index_or, stamps_in, subst, suc, sym, take}
+use Rattle.iot_world.proofs.Common.{true, vec_capacity, vec_len, with_clients, with_ends, with_server, ℕ, [], ◌++◌, ◌+◌, ◌∙◌, ◌∷◌, ◌≡◌, ◌≤◌}
+use Rattle.iot_world.proofs.DisksLaws.{arms_with, clients_same, first_kept, pushed_with, server_same, unarmed_same}
+use Rattle.iot_world.proofs.{ListLaws.all_split, ListLaws.each_map, ListLaws.each_place_push, ListLaws.each_push, PlacesLaws.ServerFollows}
+use Rattle.iot_world.proofs.PlacesLaws.{ends_length, has_places, kept_server, placed_beside, places_list, server_list, server_placed}
+use Rattle.iot_world.{proofs.WorldsLaws.Any, proofs.WorldsLaws.at_part, proofs.WorldsLaws.opens_keeps, specs.Disks.AreFresh}
+use Rattle.iot_world.specs.{Disks.AreUnarmed, Prelude.client_line, World.DeclaresClient, World.GivesBack, World.SaysStarted, World.Starts}
 use Rattle.iot_event.specs.declared.event.Event.TheVariants as events
-use Rattle.iot_exchange.proofs.FollowingLaws.{follows_nothing}
 use Rattle.iot_exchange.specs.Scripts as exchange
-use Rattle.iot_judging.proofs.FollowingLaws.{follows_kept}
-use Rattle.iot_machine.specs.Machine.{Commit}
-use Rattle.iot_laptop.specs.Laptops.{FallenStands, fallen, unopened_laptop, awake}
 use Rattle.iot_machine.specs.Machine as machine
-use Rattle.iot_machine.specs.Nodes.{no_counts}
-use Rattle.iot_standing.proofs.ScriptsLaws.{named_more, state_more, if_more}
-use Rattle.iot_world.proofs.BeginsLaws.{begins_there}
-use Rattle.iot_world.proofs.Common.{MakesStep, DeclaresClient, Starts, LaptopHasDisk, client_count}
-use Rattle.iot_world.proofs.Common.{false, ◌++◌, drop, get_or-append_seam, set-append_seam, append-nil, length-append}
-use Rattle.iot_world.proofs.Common.{map-append, sound_opening, AreFresh, ArePlaced, AreUnarmed, GivesBack, Opens, with_clients, StandsFor}
-use Rattle.iot_world.proofs.Common.{script_names, more_names, all_push, Each, IsWorldOfSome, ◌≤◌, length-map}
-use Rattle.iot_world.proofs.Common.{slice_index_or, take, None, bytes_eq, rules}
-use Rattle.iot_world.proofs.Common.{◌≡◌, ℕ, Bool, List, [], ◌∷◌, length, map, Some, refl, sym, ap, subst, ◌∙◌, arith, suc, ◌+◌, true}
-use Rattle.iot_world.proofs.DisksLaws.{arms_with, clients_same, first_kept, unarmed_same, pushed_with, server_same}
-use Rattle.iot_world.proofs.ListLaws.{all_split, each_push, each_place_push, each_map}
-use Rattle.iot_world.proofs.PlacesLaws.{ServerFollows, ends_length, has_places, kept_server, placed_beside, places_list, server_list}
-use Rattle.iot_world.proofs.PlacesLaws.{server_placed}
-use Rattle.iot_world.proofs.WorldsLaws.{Any, at_part, opens_keeps}
-use Rattle.iot_world.specs.Disks.{HasEnds, ServerBegins, with_ends}
-use Rattle.iot_world.specs.Prelude.{AreApart, script_of}
-use Rattle.iot_world.specs.Prelude.{Declares, names_in, client_of, add_client, event_part, client_line, ClientStands}
-use Rattle.iot_world.specs.Prelude.{KeepsTrails, stamps_in, Vec, is_some, Result, Ok, Err, OnOk, vec_len, vec_capacity, Medium}
-use Rattle.iot_world.specs.Prelude.{Machine, handed, first_of, client_in, client_at, no_client, Counts, unopened, server_name, OpensNode}
-use Rattle.iot_world.specs.Prelude.{Opening, KeepsDisk, counts_on, IsEmpty, StepsTo, disk_of, ServerStands, HavingAnswered, KeepsCommits}
-use Rattle.iot_world.specs.Prelude.{ServerNode, Laptop, DeclaredScript, World, AllByRecursion, Code, is_declared, Says, goes_on, Declared}
-use Rattle.iot_world.specs.Prelude.{Refines}
-use Rattle.iot_world.specs.Prelude.{disk_in, script_named, Global, IsBeside, KeepsBeside, last_of, on_both, paired, placed, IsNamed}
-use Rattle.iot_world.specs.World.{LeavesDisks, SaysStarted, StandsIn, with_server}
-use Rattle.iot_machine.proofs.StepsLaws.{at_each, at_one, does, nothing, quiet, says_this, joined as one_then}
-use Rattle.std.proofs.Math.Seq.{take-append_seam}
-use Rattle.std.proofs.lemmas.Bool.{or_parts}
-use Rattle.std.proofs.lemmas.List.Folds.{find-append}
-use Rattle.std.proofs.lemmas.Slice.Eq.{bytes_eq-Decides}
 
 -- ---- scripts by their names, as more are declared
 

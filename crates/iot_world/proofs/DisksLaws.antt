@@ -1,18 +1,14 @@
 -- The disks of a world, from one call to the next.
-use Rattle.std.proofs.lemmas.Option.{same_Some}
-use Rattle.iot_world.proofs.Common.{◌≡◌, ℕ, zero, suc, ◌+◌, ◌<◌, Bool, true, List, [], ◌∷◌, ◌++◌, length, Option, Some, None, slice_set}
-use Rattle.iot_world.proofs.Common.{inl, refl}
-use Rattle.iot_world.proofs.Common.{sym, ap, ◌∙◌, arith, append_assoc, slice_get, slice_index_or, subst, length-append, length-set}
-use Rattle.iot_world.proofs.Common.{with_first, with_clients, LaptopHasDisk, AreLast, UnlessArmed, KeepsNode, Each, KeepsDisks}
-use Rattle.iot_world.proofs.Common.{SameArms, IsUnarmed, IsWorldOfSome, all_set, false, ◌≤◌, MakesStep, disks_of, OnOk, commits_same}
-use Rattle.iot_world.specs.Prelude.{AllByRecursion, is_some, Result, Ok, Err, IfErr, Vec, Global, Medium, KeepsDisk, disk_in}
-use Rattle.iot_world.specs.Prelude.{Laptop, disk_of, is_promoted, KeepsBeside, KeepsCommits, HasPlaces, ServerNode, World, Machine, Call}
-use Rattle.iot_world.specs.Prelude.{IsBeside, on_both}
-use Rattle.iot_world.proofs.Common.{StandsFor}
-use Rattle.iot_world.specs.Disks.{HasEnds}
-use Rattle.iot_world.specs.World.{LeavesDisks}
+use Rattle.{std.proofs.Common.OnOk, std.proofs.Common.append_assoc, iot_machine.proofs.FollowsLaws.all_set}
+use Rattle.iot_world.proofs.Common.{AllByRecursion, Bool, Call, Each, Err, Global, HasEnds, HasPlaces, IfErr, IsBeside, IsWorldOfSome}
+use Rattle.iot_world.proofs.Common.{KeepsBeside, KeepsCommits, KeepsDisk, KeepsDisks, KeepsNode, Laptop, LaptopHasDisk, LeavesDisks}
+use Rattle.iot_world.proofs.Common.{List, Machine, MakesStep, Medium, None, Ok, Option, Result, SameArms, ServerNode, Some, StandsFor}
+use Rattle.iot_world.proofs.Common.{Vec, World, ap, arith, commits_same, disk_in, disk_of, disks_of, false, inl, is_promoted, is_some}
+use Rattle.iot_world.proofs.Common.{length, length-append, length-set, on_both, refl, same_Some, slice_get, slice_index_or, slice_set}
+use Rattle.iot_world.proofs.Common.{subst, suc, sym, true, with_clients, with_first, zero, ℕ, [], ◌++◌, ◌+◌, ◌<◌, ◌∙◌, ◌∷◌, ◌≡◌, ◌≤◌}
+use Rattle.iot_world.proofs.ListLaws.{all_split, looked_up}
 use Rattle.iot_world.proofs.PlacesLaws.{ServerFollows, has_places, kept_server, places_list, promoted_is, same_server, server_placed}
-use Rattle.iot_world.proofs.ListLaws.{looked_up, all_split}
+use Rattle.iot_world.specs.{Disks.IsUnarmed, World.AreLast, World.UnlessArmed}
 
 -- what is so of any answer is so unless a disk was armed
 unless_armed : {T E : Type 0} (arms : Bool) (r : Result T E) (P : Type 0) → P → UnlessArmed arms r P

@@ -1,38 +1,27 @@
 -- What the disks that a world gives back hold and count: the first and the last have the list, the next what clients keep, and the others
 -- are spare.
-use Rattle.std.proofs.lemmas.Option.{same_Some}
-use Rattle.iot_world.proofs.Common.{◌≡◌, ◌+◌, ℕ, List, [], ◌∷◌, ◌++◌, length, map, Option, Some, None, inl, inr, refl, sym, ap, subst, ◌∙◌}
-use Rattle.iot_world.proofs.Common.{arith, length-append, map-append, lasts, node_stands, IsListed, Holds, IsKept, KeepsClient}
-use Rattle.iot_world.proofs.Common.{DisksHold, KeepsNode, Each, StandsFor, Opens, KeepsDisks, with_clients}
-use Rattle.iot_world.proofs.Common.{disks_of, length-map, with_first, running_kept, state_kept, stands_go_on, own_goes_on, image_goes_on}
-use Rattle.iot_world.proofs.Common.{SameArms, Bool, true, false, ◌⊎◌, ◌||◌}
-use Rattle.iot_world.specs.World.{StandsIn}
-use Rattle.iot_world.specs.Disks.{CountOn, ServerBegins, other_of, own_of, with_ends}
-use Rattle.iot_world.specs.Holding.{HoldsServer}
-use Rattle.iot_world.specs.Prelude.{Disks, Image, LacksCommit, on_both, paired, placed}
-use Rattle.iot_server_node.specs.Disks.{MayLeave}
-use Rattle.iot_world.proofs.BeginsLaws.{begins_there, last_begins, lone, pair_of, pairs_begin}
-use Rattle.iot_world.proofs.PlacesLaws.{ServerPlaced, ends_as, has_places, places_list, promoted_at, promoted_is, server_list}
-use Rattle.iot_world.proofs.PlacesLaws.{server_placed}
-use Rattle.std.proofs.lemmas.Bool.{or_parts}
-use Rattle.iot_disk.specs.Disk.{Storing}
-use Rattle.iot_world.specs.Prelude.{IsPlaced}
-use Rattle.iot_world.specs.Prelude.{is_some, true, Result, Ok, Err, IfErr, OnOk, StandFor, State, Medium, Call, Declared, ClientState}
-use Rattle.iot_world.specs.Prelude.{names_in, no_text, Machine, Commit, Node, Counts, Refines, kept_text, CountsOn, counts_on}
-use Rattle.iot_world.specs.Prelude.{Keeping, PostStands, HoldsEither, Post, Up, Down, Between, lists, IsImage}
-use Rattle.iot_world.specs.Prelude.{ClientStands, StandsAnyhow, disk_in, IsClientImage, seating, Laptop, World}
-use Rattle.iot_world.specs.Prelude.{Client, Transaction, IsOneMoreIfAny}
-use Rattle.iot_machine.specs.Machine as machine
-use Rattle.iot_node.specs.Posts.{disk_of}
-use Rattle.iot_node.specs.Prelude.{next}
-use Rattle.iot_node.proofs.PostsLaws.{lasts_in}
-use Rattle.iot_laptop.proofs.RestartLaws.{keeps_any}
-use Rattle.iot_laptop.proofs.SeatsLaws.{seat_images}
-use Rattle.iot_world.proofs.ListLaws.{each_length, each_map, each_same_as}
-use Rattle.iot_world.proofs.WorldsLaws.{same_length}
-use Rattle.iot_machine.specs.Clients as clients
+use Rattle.{iot_disk.specs.Disk.Storing, iot_judging.specs.Records.IsImage, iot_judging.specs.Records.LacksCommit}
+use Rattle.{iot_kept.specs.Standing.StandFor, iot_kept.specs.States.Transaction, iot_laptop.proofs.NodesLaws.node_stands}
+use Rattle.{iot_laptop.proofs.RestartLaws.keeps_any, iot_laptop.proofs.SeatsLaws.seat_images, iot_machine.specs.Events.no_text}
+use Rattle.iot_node.{proofs.PostsLaws.lasts_in, specs.Disks.CountsOn, specs.Keeping.Keeping, specs.Posts.HoldsEither, specs.Posts.disk_of}
+use Rattle.iot_server_node.proofs.BeginningLaws.{image_goes_on, own_goes_on, stands_go_on}
+use Rattle.iot_server_node.{proofs.ServersLaws.lasts, specs.Disks.IsPlaced, specs.Disks.MayLeave}
 use Rattle.iot_standing.specs.Kept.{RunKept, StateKept}
-use Rattle.iot_exchange.proofs.TransactionsLaws.{queue_are}
+use Rattle.iot_world.proofs.BeginsLaws.{begins_there, last_begins, lone, pair_of, pairs_begin}
+use Rattle.iot_world.proofs.Common.{Between, Bool, Call, Client, ClientStands, ClientState, Commit, Counts, Declared, Disks, Down}
+use Rattle.iot_world.proofs.Common.{Each, Err, IfErr, Image, IsClientImage, IsOneMoreIfAny, KeepsDisks, KeepsNode, Laptop, List, Machine}
+use Rattle.iot_world.proofs.Common.{Medium, Node, None, Ok, OnOk, Opens, Option, Post, PostStands, Refines, Result, SameArms, ServerBegins}
+use Rattle.iot_world.proofs.Common.{Some, StandsAnyhow, StandsFor, StandsIn, State, Up, World, ap, arith, counts_on, disk_in, disks_of}
+use Rattle.iot_world.proofs.Common.{false, inl, inr, is_some, kept_text, length, length-append, length-map, lists, map, map-append}
+use Rattle.iot_world.proofs.Common.{names_in, next, on_both, or_parts, other_of, paired, placed, queue_are, refl, same_Some, seating}
+use Rattle.iot_world.proofs.Common.{subst, sym, true, with_clients, with_ends, with_first, ℕ, [], ◌++◌, ◌+◌, ◌||◌, ◌∙◌, ◌∷◌, ◌≡◌, ◌⊎◌}
+use Rattle.iot_world.proofs.ListLaws.{each_length, each_map, each_same_as}
+use Rattle.iot_world.proofs.PlacesLaws.{ServerPlaced, ends_as, has_places, places_list, promoted_at, promoted_is, server_list}
+use Rattle.iot_world.{proofs.PlacesLaws.server_placed, proofs.WorldsLaws.same_length, specs.Disks.CountOn, specs.Disks.own_of}
+use Rattle.iot_world.specs.Holding.{DisksHold, Holds, HoldsServer, IsKept, IsListed, KeepsClient, running_kept, state_kept}
+use Rattle.iot_world.specs.Prelude.{true}
+use Rattle.iot_machine.specs.Machine as machine
+use Rattle.iot_machine.specs.Clients as clients
 
 -- ---- where the spare disks are, and how many
 

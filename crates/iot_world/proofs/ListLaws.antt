@@ -1,9 +1,7 @@
 -- Lists that are looked up and changed at a place, and lists that go together by place.
-use Rattle.std.proofs.lemmas.Option.{same_Some, slice_get_read}
-use Rattle.std.proofs.lemmas.Slice.Zip.{AllZip-long}
-use Rattle.iot_world.proofs.Common.{◌≡◌, ◌<◌, ℕ, zero, suc, List, [], ◌∷◌, ◌++◌, length, map, refl, sym, ap, subst, ◌∙◌, slice_get}
-use Rattle.iot_world.proofs.Common.{slice_index_or, slice_set, get_or, Some, Each}
-use Rattle.std.specs.List.{AllByRecursion}
+use Rattle.std.proofs.{Common.get_or, lemmas.Option.slice_get_read, lemmas.Slice.Zip.AllZip-long}
+use Rattle.iot_world.proofs.Common.{AllByRecursion, Each, List, Some, ap, length, map, refl}
+use Rattle.iot_world.proofs.Common.{same_Some, slice_get, slice_index_or, slice_set, subst, suc, sym, zero, ℕ, [], ◌++◌, ◌<◌, ◌∙◌, ◌∷◌, ◌≡◌}
 
 -- ---- one element
 

@@ -1,34 +1,25 @@
 -- What one sees who looks in at a world is what the machine says: the list, what all nodes hold, and what a client shows.
-use Rattle.iot_client.specs.Ties.{Live, disk_of as client_disk}
-use Rattle.iot_client.specs.declared.client.Client.{Client as LiveClient}
-use Rattle.iot_exchange.proofs.TransactionsLaws.{queue_are}
-use Rattle.iot_inspect.specs.Texts.{AreOf, tree_text}
-use Rattle.iot_inspect.specs.Values.{live_data}
-use Rattle.iot_kept.specs.States as kept
-use Rattle.iot_laptop.specs.Laptops.{LaptopStands, IsView, is_alive, state_in, IsLent, lent_by, disk_by, live_in}
-use Rattle.iot_machine.specs.Machine as machine
-use Rattle.iot_machine.specs.Recorded.{label_of, labels_of}
-use Rattle.iot_server.specs.Servers.{state_of}
-use Rattle.iot_standing.proofs.StatesLaws.{view_is}
-use Rattle.iot_standing.specs.Kept.{ItemsStand}
-use Rattle.iot_standing.specs.States.{RunStand}
-use Rattle.iot_tree.specs.declared.labels.Label.{Label}
-use Rattle.iot_world.proofs.Common.{None, inl, inr, lent_at, LendsClient, ClientIs, IsReady}
-use Rattle.iot_world.proofs.Common.{same_name, awake_stands, fallen_stands, StandsFor, IsWorldOfSome, MakesStep}
-use Rattle.iot_world.proofs.Common.{slice_get, ◌≤◌, arith, false, codes, refl, length-map, map_more, take_all, bind, asks, says}
-use Rattle.iot_world.proofs.Common.{◌≡◌, ℕ, ◌<◌, true, List, [], ◌∷◌, ◌++◌, length, Option, Some, ◌+◌, take, sym, ap, subst, ◌∙◌}
-use Rattle.iot_world.proofs.ListLaws.{each_same_as}
-use Rattle.iot_world.proofs.WorldsLaws.{same_length, inside_here, client_here}
-use Rattle.iot_world.specs.Looks.{client_names, HasTold, AddsTold, Tells}
-use Rattle.iot_world.specs.Prelude.{AllByRecursion, Server, Medium, Logs, names_in, node_part, Machine, Commit, Client}
-use Rattle.iot_world.specs.Prelude.{Bool, Says, Up, disk_in, Seated}
-use Rattle.iot_machine.specs.Calls.{either}
-use Rattle.iot_world.specs.World.{StandsIn}
-use Rattle.iot_world.specs.Prelude.{client_in, no_client, IsListed, log_text, line, IsServerOf, ClientStands, Laptop, World, Nodes, Item}
-use Rattle.iot_world.specs.Prelude.{shown, named, Json, view, Declared, client_data, Show, Shows, Refines, IfSome, Post}
+use Rattle.std.proofs.lemmas.List.{map_more, take_all, Elements.All-from_recursion, Elements.All-map, Elements.All-weaker}
+use Rattle.{std.specs.Prelude.IfSome, iot_client.specs.Ties.Live, iot_client.specs.Ties.disk_of as client_disk}
+use Rattle.{iot_client.specs.declared.client.Client.Client as LiveClient, iot_event.specs.declared.event.NodeEvent.TheVariants.Show}
+use Rattle.iot_inspect.specs.{Shown.named, Shown.shown, Texts.AreOf, Texts.tree_text, Values.live_data, declared.snapshot.Json.Json}
+use Rattle.iot_laptop.proofs.NodesLaws.{awake_stands, fallen_stands, lent_at, same_name}
+use Rattle.iot_laptop.specs.Laptops.{IsLent, IsView, LaptopStands, disk_by, is_alive, lent_by, live_in, state_in}
+use Rattle.iot_machine.{proofs.StepsLaws.asks, proofs.StepsLaws.bind, specs.Clients.view, specs.Events.Logs}
+use Rattle.iot_machine.specs.{Json.client_data, Recorded.label_of, Recorded.labels_of, Sound.IsListed, Stops.Shows, Texts.log_text}
+use Rattle.{iot_queue.specs.declared.items.Item.Item, iot_server.specs.Servers.state_of, iot_server.specs.declared.server.Server.Server}
+use Rattle.{iot_server_node.specs.Servers.IsServerOf, iot_standing.proofs.StatesLaws.view_is, iot_standing.specs.Kept.ItemsStand}
+use Rattle.{iot_standing.specs.States.RunStand, iot_tree.specs.Tree.Nodes, iot_tree.specs.declared.labels.Label.Label}
+use Rattle.iot_world.proofs.Common.{AllByRecursion, Client}
+use Rattle.iot_world.proofs.Common.{ClientIs, ClientStands, Commit, Declared, IsWorldOfSome, Laptop, List, Machine, MakesStep, Medium, None}
+use Rattle.iot_world.proofs.Common.{Option, Post, Refines, Says, Seated, Some, StandsFor, StandsIn, Up, World, ap, arith, client_in, codes}
+use Rattle.iot_world.proofs.Common.{disk_in, either, false, inl, inr, length, length-map, line, names_in, no_client, node_part, queue_are}
+use Rattle.iot_world.proofs.Common.{refl, same_Some, says, slice_get, subst, sym, take, true, ℕ, [], ◌++◌, ◌+◌, ◌<◌, ◌∙◌, ◌∷◌, ◌≡◌, ◌≤◌}
+use Rattle.iot_world.proofs.{ListLaws.each_same_as, WorldsLaws.client_here, WorldsLaws.inside_here, WorldsLaws.same_length}
+use Rattle.iot_world.specs.{Looks.AddsTold, Looks.HasTold, Looks.Tells, Looks.client_names, Prelude.Bool, World.IsReady, World.LendsClient}
 use Rattle.serde_json.specs.Data.{Data}
-use Rattle.std.proofs.lemmas.List.Elements.{All-from_recursion, All-map, All-weaker}
-use Rattle.std.proofs.lemmas.Option.{same_Some}
+use Rattle.iot_kept.specs.States as kept
+use Rattle.iot_machine.specs.Machine as machine
 
 module _ {D : Type 0} (medium : Medium D) where
   -- ---- the names of the clients

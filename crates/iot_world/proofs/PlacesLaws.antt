@@ -1,19 +1,13 @@
 -- The first disk and the last: lists that have both, and the places of the server's two.
-use Rattle.std.proofs.Math.Nat.{add_comm}
-use Rattle.std.proofs.lemmas.List.{same_from_push}
-use Rattle.std.proofs.lemmas.Option.{same_Some}
-use Rattle.iot_world.proofs.Common.{◌≡◌, ◌⊎◌, ◌+◌, Bool, true, false, List, [], ◌∷◌, length, drop, Option, Some, None, refl, sym}
-use Rattle.iot_world.proofs.Common.{ap, subst, ◌∙◌, arith, slice_index_or, length-append, inl, inr}
-use Rattle.iot_world.specs.Prelude.{option_map, Arms, Medium, Disks, placed, sides, sides_of, on_both, ServerNode}
-use Rattle.iot_world.specs.Prelude.{IsBeside, HasOther, HasPlaces, KeepsDisk, TurnsToBackup, Post, Up, Down, Between}
-use Rattle.iot_world.specs.Prelude.{disk_of, is_promoted, is_up, turned_post}
+use Rattle.std.proofs.{Math.Nat.add_comm, lemmas.List.same_from_push}
+use Rattle.iot_server_node.specs.{Disks.Sides, Disks.sides, Disks.sides_of, Disks.turned, Keepers.disks_in}
+use Rattle.iot_server_node.specs.Servers.{HasOther, TurnsToBackup, given_up_in, turned_post}
+use Rattle.iot_world.proofs.Common.{Arms, Between, Bool, Disks, Down, HasPlaces, IsBeside}
+use Rattle.iot_world.proofs.Common.{KeepsDisk, List, Medium, None, Option, Post, ServerKeeper, ServerNode, Some, Up, ap, arith, disk_of}
+use Rattle.iot_world.proofs.Common.{drop, false, inl, inr, is_promoted, is_up, length, length-append, on_both, option_map, other_of, placed}
+use Rattle.iot_world.proofs.Common.{refl, same_Some, slice_index_or, subst, sym, true, with_ends, with_server, [], ◌+◌, ◌∙◌, ◌∷◌, ◌≡◌, ◌⊎◌}
+use Rattle.iot_world.specs.Disks.{AreTwoUnarmed, SameOrRose}
 use Rattle.iot_node.specs.Posts as posts
-use Rattle.iot_server_node.specs.Disks.{Sides, turned}
-use Rattle.iot_server_node.specs.Keepers.{disks_in}
-use Rattle.iot_server_node.specs.Servers.{given_up_in}
-use Rattle.iot_server_node.specs.declared.keeper.ServerKeeper.{ServerKeeper}
-use Rattle.iot_world.specs.Disks.{with_ends, other_of, SameOrRose, AreTwoUnarmed}
-use Rattle.iot_world.specs.World.{with_server}
 
 -- ---- lists with a first element and a last one
 

@@ -1,48 +1,36 @@
 -- One node of a world, or a client with the server, among all others: these stay, and each client keeps its name.
-use Rattle.iot_disk.specs.Disk.{armed_with}
-use Rattle.iot_disk.specs.declared.disk.Pick.{Pick}
+use Rattle.std.proofs.{Common.Err, Common.IfSome, Common.Ok, Common.OnOk, Common.Result, Math.Seq.map-set_same}
+use Rattle.std.proofs.lemmas.{Option.slice_get-get_or, Option.slice_get-map, Option.slice_get_within, Result.on_ok_weaker}
+use Rattle.{iot_disk.specs.Disk.armed_with, iot_disk.specs.declared.disk.Pick.Pick, iot_event.specs.declared.event.LinkEvent.LinkEvent}
+use Rattle.{iot_event.specs.declared.event.Task.Task, iot_exchange.specs.Pairs.AnyStands}
+use Rattle.{iot_exchange.specs.Pairs.IsStandingWith, iot_exchange.specs.Pairs.two, iot_judging.proofs.FollowingLaws.Grows}
+use Rattle.{iot_judging.proofs.FollowingLaws.follows_on, iot_judging.proofs.FollowingLaws.stays, iot_laptop.specs.Alone.OpensClient}
+use Rattle.iot_lasting.{proofs.LastingLaws.an_event_keeps_commits, specs.Lasting.AddsOne, specs.Lasting.IsGrowing}
+use Rattle.iot_machine.proofs.KeepsLaws.{Stays, asks_then, keeps_at, keeps_does, keeps_then, stays_goes_on, stays_says, stays_then}
+use Rattle.iot_machine.proofs.{SoundLaws.sound_event, StepsLaws.joined}
+use Rattle.iot_machine.specs.{Calls.Asks, Calls.At, Calls.Lens, Calls.Then, Clients.Running}
+use Rattle.iot_machine.specs.Events.{ArmsBackup, IfUp, RestartsServer, comes_back, counts_anew, cuts_off, link_part, task_part}
+use Rattle.iot_machine.specs.Machine.{arm_backup, give_up, node, pair_at, server}
+use Rattle.iot_machine.specs.{Refining.StepFrom, Serving.backup_name, Sound.IsSure, Stops.Restarts, Texts.stop_line}
+use Rattle.iot_server_node.{proofs.ServersLaws.up_is, specs.Servers.ArmsServersBackup, specs.Servers.Promotes, specs.Servers.answered_since}
+use Rattle.iot_world.proofs.Common.{ArePlaced, Arms}
+use Rattle.iot_world.proofs.Common.{Between, Bool, Call, Client, ClientStands, ClientState, Commit, Declared, DeclaredScript, Disks, Down}
+use Rattle.iot_world.proofs.Common.{Each, Event, Global, HavingAnswered, IsBeside, IsOneMoreIfAny, IsWorldOfSome, KeepsBeside, KeepsTrails}
+use Rattle.iot_world.proofs.Common.{Laptop, List, Machine, MakesStep, Medium, Node, NodeEvent, None, Option, Post, PostStands, Profile}
+use Rattle.iot_world.proofs.Common.{Refines, Says, ServerKeeper, ServerNode, ServerStands, Some, StandsAnyhow, StandsFor, StandsIn, StepsTo}
+use Rattle.iot_world.proofs.Common.{Up, Vec, World, ap, arith, at_each, client_at, client_in, codes, does, either, event_part, false}
+use Rattle.iot_world.proofs.Common.{follows_kept, inl, inr, is_promoted, is_up, kept_text, length, length-set, line, lists, map, names_in}
+use Rattle.iot_world.proofs.Common.{no_client, node_part, on_both, option_map, quiet, refl, rules, same_Some, server_name, slice_get}
+use Rattle.iot_world.proofs.Common.{slice_index_or, slice_set, stamps_in, subst, sym, true, ℕ, [], ◌++◌, ◌+◌, ◌<◌, ◌∙◌, ◌∷◌, ◌≡◌, ◌⊎◌}
+use Rattle.iot_world.proofs.ListLaws.{each_get, each_length, each_map, each_place_set, each_set, looked_up}
+use Rattle.iot_world.{proofs.PlacesLaws.promoted_is, specs.World.EventSteps, specs.World.scripts_of}
 use Rattle.iot_event.specs.declared.event.ClientEvent.TheVariants as client_events
 use Rattle.iot_event.specs.declared.event.Event.TheVariants as events
 use Rattle.iot_event.specs.declared.event.LinkEvent.TheVariants as links
-use Rattle.iot_event.specs.declared.event.LinkEvent.{LinkEvent}
 use Rattle.iot_event.specs.declared.event.NodeEvent.TheVariants as nodes
-use Rattle.iot_event.specs.declared.event.Task.{Task}
-use Rattle.iot_exchange.specs.Pairs.{two, AnyStands, IsStandingWith}
 use Rattle.iot_exchange.specs.Scripts as exchange
-use Rattle.iot_judging.proofs.FollowingLaws.{Grows, follows_kept, follows_on, stays}
-use Rattle.iot_lasting.proofs.LastingLaws.{an_event_keeps_commits}
-use Rattle.iot_lasting.specs.Lasting.{AddsOne, IsGrowing}
-use Rattle.iot_machine.proofs.KeepsLaws.{Stays, asks_then, keeps_at, keeps_does, keeps_then, stays_goes_on, stays_says, stays_then}
-use Rattle.iot_machine.specs.Calls.{Asks, Says, either}
 use Rattle.iot_machine.specs.Events as machine
 use Rattle.iot_machine.specs.Nodes as nodes_of
-use Rattle.iot_machine.specs.Sound.{IsSure}
-use Rattle.iot_machine.proofs.StepsLaws.{at_each, does, joined, quiet}
-use Rattle.iot_machine.specs.Refining.{StepFrom}
-use Rattle.iot_node.specs.Posts.{PostStands}
-use Rattle.iot_node.specs.declared.post.Post.TheVariants.{Up, Down, Between}
-use Rattle.iot_node.specs.declared.post.Post.{Post}
-use Rattle.iot_server_node.specs.Keepers.{lists}
-use Rattle.iot_server_node.specs.Servers.{ArmsServersBackup, Promotes, IsOneMoreIfAny}
-use Rattle.iot_server_node.specs.declared.keeper.ServerKeeper.{ServerKeeper}
-use Rattle.iot_tree.specs.Profiles.{Profile}
-use Rattle.iot_world.proofs.Common.{IsWorldOfSome}
-use Rattle.iot_world.proofs.Common.{MakesStep, scripts_of, up_is, map-set_same, ◌⊎◌, Ok, Err, OnOk, Result}
-use Rattle.iot_world.proofs.Common.{codes, inl, inr, Option, None, IfSome, slice_set, refl, sym, subst, arith}
-use Rattle.iot_world.proofs.Common.{◌++◌, length-set, Each, ArePlaced, StandsFor, ◌≡◌, ℕ, Bool, true, false, List, Some, ap}
-use Rattle.iot_world.proofs.Common.{◌∙◌, ◌<◌, [], ◌∷◌, length, map, slice_get, slice_index_or, ◌+◌, rules, sound_event, EventSteps}
-use Rattle.iot_world.proofs.ListLaws.{looked_up, each_get, each_map, each_set, each_length, each_place_set}
-use Rattle.std.proofs.lemmas.Result.{on_ok_weaker}
-use Rattle.iot_world.proofs.PlacesLaws.{promoted_is}
-use Rattle.iot_world.specs.Prelude.{ArmsBackup, IsBeside, KeepsBeside, arm_backup, backup_name, give_up, Profile}
-use Rattle.iot_world.specs.Prelude.{At, Then, Lens, ClientState, Running, Declared, link_part, node_part, comes_back, Refines}
-use Rattle.iot_world.specs.Prelude.{Commit, no_client, client_in, client_at, pair_at, server, Node, OpensClient, Vec, Global, Medium}
-use Rattle.iot_world.specs.Prelude.{ServerNode, ClientStands, StandsAnyhow, Laptop, DeclaredScript, World, option_map, KeepsTrails}
-use Rattle.iot_world.specs.Prelude.{cuts_off, counts_anew, RestartsServer, IfUp, task_part, Client, Machine, NodeEvent, Call}
-use Rattle.iot_world.specs.Prelude.{is_promoted, line, stop_line, Disks, Event, event_part, on_both, names_in, node, stamps_in, Arms}
-use Rattle.iot_world.specs.Prelude.{server_name, kept_text, Restarts, StepsTo, ServerStands, HavingAnswered, answered_since, is_up}
-use Rattle.iot_world.specs.World.{StandsIn}
-use Rattle.std.proofs.lemmas.Option.{same_Some, slice_get-map, slice_get-get_or, slice_get_within}
 
 -- ---- the server's list gets longer in each event, or stays: so what a client holds goes on following it
 

@@ -1,8 +1,9 @@
 -- Which event may come, if so many clients, and scripts of these names, are declared.
-use Rattle.std.specs.Prelude.{◌≡◌, ◌<◌}
-use Rattle.iot_world.specs.Prelude.{ℕ, Bool, true, false, List, length, is_declared, ClientEvent, Event, NodeEvent, Stop, MayDo, Profile}
-use Rattle.iot_event.specs.declared.declared.TheConstants.{CLIENT_LIMIT}
-use Rattle.iot_event.specs.declared.event.ClientEvent.TheVariants.{Node, Task}
+use Rattle.std.specs.Prelude.{◌<◌, ◌≡◌}
+use Rattle.iot_event.specs.{Meanings.is_declared, declared.declared.TheConstants.CLIENT_LIMIT}
+use Rattle.iot_event.specs.declared.event.{ClientEvent.ClientEvent, ClientEvent.TheVariants.Task, NodeEvent.TheVariants.Stop}
+use Rattle.{iot_exchange.specs.Scripts.MayDo, iot_tree.specs.Profiles.Profile}
+use Rattle.iot_world.specs.Prelude.{Bool, Event, List, Node, NodeEvent, false, length, true, ℕ}
 use Rattle.iot_event.specs.declared.event.Event.TheVariants as events
 
 -- what a client is asked to do is with scripts that are declared

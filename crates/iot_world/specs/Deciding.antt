@@ -1,18 +1,17 @@
 -- What decides whether a record that is in doubt is kept: the image from which its node comes back. So if all images of that disk have it,
 -- or none has it, that decides. The server comes back from its first disk by a restart, and from its backup by a promotion.
-use Rattle.std.specs.Prelude.{◌≡◌, ◌++◌, []}
-use Rattle.iot_world.specs.Prelude.{Disks, Post, on_both, is_promoted, turned_post, false}
-use Rattle.iot_world.specs.Prelude.{ℕ, true, List, Medium, Event, NodeEvent, Restart, Declared, Client, Commit, server_name, is_fallen}
-use Rattle.iot_world.specs.Prelude.{CameIf, words_of, lists, ServerStands, post_of, is_up, Came, ClientStands, Laptop, World}
-use Rattle.iot_event.specs.declared.event.ClientEvent.TheVariants.{Node}
-use Rattle.iot_event.specs.declared.event.Event.TheVariants as events
-use Rattle.iot_kept.specs.Standing.{records_in}
-use Rattle.iot_machine.specs.Nodes as nodes
-use Rattle.iot_node.specs.declared.comeback.Comeback.{Comeback}
-use Rattle.iot_node.specs.declared.comeback.Comeback.TheVariants as comebacks
-use Rattle.iot_server_node.specs.Deciding.{DecidesPost, DecidesServer}
-use Rattle.iot_server_node.specs.declared.keeper.ServerKeeper.{ServerKeeper}
+use Rattle.std.specs.Prelude.{◌++◌, ◌≡◌}
+use Rattle.iot_event.specs.declared.event.NodeEvent.TheVariants.{Restart}
+use Rattle.{iot_kept.specs.Standing.records_in, iot_laptop.specs.Calls.Came, iot_machine.specs.Serving.server_name}
+use Rattle.iot_node.specs.{Posts.CameIf, Posts.is_fallen, Posts.words_of, declared.comeback.Comeback.Comeback, declared.post.Post.Post}
+use Rattle.iot_server_node.specs.{Deciding.DecidesPost, Deciding.DecidesServer, Disks.on_both, Keepers.lists}
+use Rattle.iot_server_node.specs.{Servers.is_up, Servers.post_of, Servers.turned_post, declared.keeper.ServerKeeper.ServerKeeper}
+use Rattle.iot_world.specs.Prelude.{Client, ClientStands, Commit, Declared, Disks}
+use Rattle.iot_world.specs.Prelude.{Event, Laptop, List, Medium, Node, NodeEvent, ServerStands, World, false, is_promoted, true, ℕ, []}
 use Rattle.iot_world.specs.World.{ClientIs}
+use Rattle.iot_event.specs.declared.event.Event.TheVariants as events
+use Rattle.iot_machine.specs.Nodes as nodes
+use Rattle.iot_node.specs.declared.comeback.Comeback.TheVariants as comebacks
 
 -- a client that comes back, by all images, and by the one from which it does
 pub record DecidesClient {D : Type 0} (medium : Medium D) (before after : List ℕ) (laptop : Laptop D) : Type 0 where

@@ -1,12 +1,10 @@
 -- The disks of a world: the first is the server's, and the last that of its backup. Between them are those of its clients, and then those
 -- that no node has yet.
-use Rattle.std.specs.Prelude.{◌≡◌, ◌⊎◌, ◌+◌, ◌∷◌, ◌++◌}
-use Rattle.iot_world.specs.Prelude.{ℕ, Bool, true, false, List, [], length, map, AllByRecursion, Medium, Commit, GoesOnFrom, Counts}
-use Rattle.iot_world.specs.Prelude.{Machine, Client, paired}
-use Rattle.iot_judging.specs.Lists.{state_of}
-use Rattle.iot_count.specs.Counts.{Rose}
-pub use Rattle.std.specs.List.{AllZip as Each}
-pub use Rattle.iot_node.specs.Disks.{counts_on, IsEmpty, CountsOn}
+use Rattle.std.specs.Prelude.{◌++◌, ◌+◌, ◌∷◌, ◌≡◌, ◌⊎◌}
+use Rattle.{iot_count.specs.Counts.Rose, iot_judging.specs.Lists.state_of}
+use Rattle.{iot_machine.specs.Nodes.Counts, iot_machine.specs.Nodes.paired, iot_server_node.specs.Records.GoesOnFrom}
+use Rattle.iot_world.specs.Prelude.{AllByRecursion, Bool, Client, Commit, List, Machine, Medium, false, length, map, true, ℕ, []}
+pub use Rattle.{std.specs.List.AllZip as Each, iot_node.specs.Disks.CountsOn, iot_node.specs.Disks.IsEmpty, iot_node.specs.Disks.counts_on}
 
 -- ten empty disks on which nothing is pending
 pub record AreFresh {D : Type 0} (medium : Medium D) (disks : List D) : Type 0 where

@@ -1,10 +1,10 @@
 -- What the disks hold that a world gives back.
-use Rattle.std.specs.Prelude.{◌≡◌, ◌⊎◌, ◌++◌}
-use Rattle.iot_world.specs.Prelude.{ℕ, Bool, true, false, List, length, map, Option, Some, None, Transaction, State, StandFor, Medium}
-use Rattle.iot_world.specs.Prelude.{ClientState, Running, so_far, Machine, Client, Commit, IsImage, IsOneMoreIfAny, LacksCommit}
-use Rattle.iot_machine.specs.Recorded.{option_named, queue_kept}
-use Rattle.iot_standing.specs.Kept.{access_kept}
-use Rattle.iot_world.specs.Disks.{Each, with_ends}
+use Rattle.std.specs.{List.AllZip as Each, Prelude.◌++◌, Prelude.◌≡◌, Prelude.◌⊎◌}
+use Rattle.iot_judging.specs.Records.{IsImage, LacksCommit}
+use Rattle.iot_kept.specs.{Standing.StandFor, States.State, States.Transaction}
+use Rattle.iot_machine.specs.{Clients.ClientState, Clients.Running, Clients.so_far, Recorded.option_named, Recorded.queue_kept}
+use Rattle.{iot_server_node.specs.Servers.IsOneMoreIfAny, iot_standing.specs.Kept.access_kept, iot_world.specs.Disks.with_ends}
+use Rattle.iot_world.specs.Prelude.{Bool, Client, Commit, List, Machine, Medium, None, Option, Some, false, length, map, true, ℕ}
 
 -- an image has this list: it stands for its state, and as many records were ever appended to it
 abbrev pub IsListed : List Commit → (image : List ℕ) → Type 0

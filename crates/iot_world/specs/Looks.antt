@@ -1,7 +1,8 @@
 -- What one sees who looks in at all nodes of a world.
-use Rattle.std.specs.Prelude.{◌≡◌, ◌∷◌, ◌++◌}
-use Rattle.iot_world.specs.Prelude.{ℕ, List, [], map, shown, named, Json, Medium, Declared, client_data, Client, ClientStands, Laptop}
-use Rattle.iot_world.specs.Prelude.{World}
+use Rattle.std.specs.Prelude.{◌++◌, ◌∷◌, ◌≡◌}
+use Rattle.iot_inspect.specs.{Shown.named, Shown.shown, declared.snapshot.Json.Json}
+use Rattle.iot_machine.specs.Json.{client_data}
+use Rattle.iot_world.specs.Prelude.{Client, ClientStands, Declared, Laptop, List, Medium, World, map, ℕ, []}
 
 -- the names of its clients, in order of declaration
 abbrev pub client_names : {D : Type 0} → World D → List (List ℕ)

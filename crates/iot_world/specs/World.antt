@@ -1,25 +1,22 @@
 -- Which plain machine a world stands for, node by node, and how a world changes.
-use Rattle.std.specs.Prelude.{◌≡◌, ◌⊎◌, ◌+◌, ◌≤◌, ◌<◌, ◌∷◌, ◌++◌}
-use Rattle.iot_world.specs.Prelude.{ℕ, Bool, true, false, List, [], length, map, Option, Some, None, IsSome, Result, Ok, slice_get}
-use Rattle.iot_world.specs.Prelude.{AllByRecursion, vec_len, vec_capacity, Medium, AreDeclared, Event, Call, Refines, Declared}
-use Rattle.iot_world.specs.Prelude.{Machine, handed, client_in, event_part, names_in, IsSound, client_line, Opening, IsEmpty, KeepsDisk}
-use Rattle.iot_world.specs.Prelude.{counts_on, Server, disk_of, ServerStands, KeepsCommits, OpensClient, ClientStands, disk_in, Laptop}
-use Rattle.iot_world.specs.Prelude.{AreApart, Disks, HasPlaces, IsBeside, first_placed, is_promoted, last_placed, World}
+use Rattle.std.specs.Prelude.{IsSome, Ok, Result, slice_get, ◌++◌, ◌+◌, ◌<◌, ◌∷◌, ◌≡◌, ◌≤◌, ◌⊎◌}
+use Rattle.iot_client.specs.{Ties.AreBegun, Ties.IsTied, Ties.live_of, Ties.place_of, Ties.state_of, declared.client.Client.Client}
+use Rattle.{iot_judging.specs.Lists.Follows, iot_laptop.specs.Alone.OpensClient, iot_laptop.specs.Laptops.stamps_in}
+use Rattle.iot_machine.specs.{Calls.Call, Events.names_in, Machine.client_in, Machine.handed, Sound.IsSound, Transcript.Opening}
+use Rattle.{iot_node.specs.Disks.IsEmpty, iot_node.specs.Disks.counts_on, iot_server.specs.declared.server.Server.Server}
+use Rattle.iot_server_node.specs.{Disks.first_placed, Disks.last_placed, Servers.IsBeside, Servers.KeepsCommits}
+use Rattle.iot_standing.specs.{Kept.ItemsStand, Scripts.AreApart, States.RunStand}
+use Rattle.iot_world.specs.{Disks.AreTwoUnarmed, Disks.DiskBegins, Disks.HasEnds, Disks.with_ends, Prelude.AllByRecursion}
+use Rattle.iot_world.specs.Prelude.{AreDeclared, Bool, ClientStands, Commit, Declared, Disks, Event, HasPlaces, KeepsDisk, KeepsTrails}
+use Rattle.iot_world.specs.Prelude.{Laptop, List, Machine, Medium, None, Option, Refines, ServerStands, Some, World, client_line}
+use Rattle.iot_world.specs.Prelude.{disk_in, disk_of, event_part, false, is_promoted, length, map, true, vec_capacity, vec_len, ℕ, []}
+pub use Rattle.iot_world.specs.Disks.{AreUnarmed, Each}
 use Rattle.iot_kept.specs.States as states
-use Rattle.iot_client.specs.Ties.{state_of, live_of, place_of, IsTied, AreBegun}
-use Rattle.iot_client.specs.declared.client.Client.{Client}
 use Rattle.iot_event.specs.declared.event.Event.TheVariants as events
 use Rattle.iot_machine.specs.Clients as clients
 use Rattle.iot_machine.specs.Machine as machines
 use Rattle.iot_server_node.specs.Servers as servers
-use Rattle.iot_standing.specs.Kept.{ItemsStand}
-use Rattle.iot_laptop.specs.Laptops.{KeepsTrails, stamps_in}
-use Rattle.iot_standing.specs.States.{RunStand}
-use Rattle.iot_machine.specs.Machine.{Commit}
-use Rattle.iot_judging.specs.Lists.{Follows}
 use Rattle.iot_exchange.specs.Scripts as exchange
-use Rattle.iot_world.specs.Disks.{AreTwoUnarmed, DiskBegins, HasEnds, with_ends}
-pub use Rattle.iot_world.specs.Disks.{AreUnarmed, Each}
 
 -- ---- what a world has
 

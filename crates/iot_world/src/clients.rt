@@ -1,12 +1,10 @@
 //! A client's declaration, and its events among all.
-ghost use Rattle.std.specs.Prelude.{◌≡◌, ◌<◌, ◌++◌, length, true, false, OnOk};
-ghost use Rattle.iot_world.specs.Prelude.{Declares, event_part, client_line, IsUnopened, SamePlace, disk_in, KeepsDisk};
+ghost use Rattle.std.specs.Prelude.{◌++◌, ◌<◌, ◌≡◌};
 ghost use Rattle.iot_event.specs.declared.event.Event.TheVariants.{At};
-ghost use Rattle.iot_text.specs.Texts.{Extends};
-ghost use Rattle.iot_world.specs.Allowed.{MayBefall, stops_client};
-ghost use Rattle.iot_world.specs.Deciding.{DecidesIn};
-ghost use Rattle.iot_world.specs.World.{IsWorldOfSome, MakesStep, SameDeclared, LeavesDisks, DeclaresClient};
-ghost use Rattle.iot_world.specs.World.{client_count, Starts};
+ghost use Rattle.{iot_laptop.specs.Laptops.IsUnopened, iot_machine.specs.Events.Declares};
+ghost use Rattle.iot_world.specs.{Allowed.MayBefall, Allowed.stops_client, Deciding.DecidesIn};
+ghost use Rattle.iot_world.specs.Prelude.{Extends, KeepsDisk, OnOk, SamePlace, client_line, disk_in, event_part, false, length, true};
+ghost use Rattle.iot_world.specs.World.{DeclaresClient, IsWorldOfSome, LeavesDisks, MakesStep, SameDeclared, Starts, client_count};
 
 use crate::disks::take_first;
 use crate::nodes::{befall, relink};

@@ -1,7 +1,6 @@
 //! The first disk, or the first and the last, apart from the others and among them again.
-ghost use Rattle.std.specs.Prelude.{◌≡◌, ◌<◌, ◌≤◌, ◌+◌, ◌∷◌, length};
-ghost use Rattle.std.specs.Vec.{vec_len, vec_capacity};
-ghost use Rattle.iot_world.specs.Disks.{with_ends};
+ghost use Rattle.std.specs.Prelude.{◌+◌, ◌<◌, ◌∷◌, ◌≡◌, ◌≤◌};
+ghost use Rattle.iot_world.specs.{Disks.with_ends, Prelude.length, Prelude.vec_capacity, Prelude.vec_len};
 
 /// Takes the first disk out of the others, and leaves room for it.
 pub(crate) fn take_first<D>(disks: &mut Vec<D>) -> D

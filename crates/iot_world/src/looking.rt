@@ -1,8 +1,8 @@
 //! Looking in at the server's list, and at what all nodes hold.
-ghost use Rattle.std.specs.Prelude.{◌≡◌, IfOk, OnOk};
-ghost use Rattle.iot_world.specs.Prelude.{StandsAnyhow, Logs, row_count, json_text, Machine};
-ghost use Rattle.iot_world.specs.Looks.{Tells, client_names, HasTold};
-ghost use Rattle.iot_world.specs.World.{StandsFor, IsWorldOfSome, MakesStep};
+ghost use Rattle.std.specs.Prelude.{◌≡◌};
+ghost use Rattle.iot_machine.specs.{Events.Logs, Json.json_text, Json.row_count};
+ghost use Rattle.iot_world.specs.{Looks.HasTold, Looks.Tells, Looks.client_names, Prelude.IfOk, Prelude.Machine};
+ghost use Rattle.iot_world.specs.{Prelude.OnOk, Prelude.StandsAnyhow, World.IsWorldOfSome, World.MakesStep, World.StandsFor};
 
 use crate::world::World;
 use iot_disk::Disk;

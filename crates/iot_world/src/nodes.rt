@@ -1,11 +1,10 @@
 //! What befalls a node or a link.
-ghost use Rattle.std.specs.Prelude.{◌≡◌, List, true, false, OnOk};
-ghost use Rattle.iot_world.specs.Prelude.{Show, ClientStands, StandsAnyhow, SamePlace, KeepsTrails, disk_in, Declared};
-ghost use Rattle.iot_world.specs.Prelude.{Refines, node_part, link_part, KeepsDisk};
-ghost use Rattle.iot_text.specs.Texts.{Extends};
-ghost use Rattle.iot_world.specs.Allowed.{arms_a_disk, stops_node};
-ghost use Rattle.iot_world.specs.Deciding.{ClientDecides};
-ghost use Rattle.iot_world.specs.World.{KeepsNode};
+ghost use Rattle.std.specs.Prelude.{◌≡◌};
+ghost use Rattle.iot_event.specs.declared.event.NodeEvent.TheVariants.{Show};
+ghost use Rattle.iot_machine.specs.Events.{link_part, node_part};
+ghost use Rattle.iot_world.specs.{Allowed.arms_a_disk, Allowed.stops_node, Deciding.ClientDecides, Prelude.ClientStands};
+ghost use Rattle.iot_world.specs.Prelude.{Declared, Extends, KeepsDisk, KeepsTrails, List, OnOk, Refines, SamePlace, StandsAnyhow, disk_in};
+ghost use Rattle.iot_world.specs.{Prelude.false, Prelude.true, World.KeepsNode};
 
 use iot_disk::Disk;
 use iot_event::{ClientEvent, Event, LinkEvent, NodeEvent};

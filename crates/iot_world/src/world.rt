@@ -1,12 +1,10 @@
 //! The world: the server and its clients, as they are between two events.
-ghost use Rattle.std.specs.Prelude.{◌≡◌, List, [], ◌∷◌, true, OnOk, IfOk, IfErr, IfSome};
-ghost use Rattle.std.specs.Option.{option_copied};
-ghost use Rattle.iot_client.specs.Ties.{disk_of as client_disk};
-ghost use Rattle.iot_world.specs.Prelude.{AreDeclared, Event as Happens, disk_in, Machine, disk_of, event_part};
+ghost use Rattle.std.specs.{Option.option_copied, Prelude.IfErr, Prelude.IfSome, Prelude.◌∷◌, Prelude.◌≡◌};
+ghost use Rattle.{iot_client.specs.Ties.disk_of as client_disk, iot_event.specs.declared.event.Event.Event as Happens};
+ghost use Rattle.iot_world.specs.Prelude.{AreDeclared, IfOk, List, Machine, OnOk, disk_in, disk_of, event_part, true, []};
 ghost use Rattle.iot_server_node.specs.Servers as servers;
-ghost use Rattle.iot_text.specs.Texts.{Extends};
 ghost use Rattle.iot_world.specs.Allowed.{IsAllowed, arms_a_disk, promotes};
-ghost use Rattle.iot_world.specs.Disks.{AreFresh, place_of};
+ghost use Rattle.iot_world.specs.{Disks.AreFresh, Disks.place_of, Prelude.Extends};
 
 use crate::disks::{put_ends, put_first, take_ends};
 use crate::nodes::arms;
@@ -34,11 +32,10 @@ pub struct World<D: Disk> {
 }
 
 impl<D: Disk> World<D> {
-    ghost use Rattle.iot_world.specs.World.{StandsFor, IsWorldOfSome, EventSteps, DeclaredOn, Opens, HasDisks, KeepsDisks, SameArms};
-    ghost use Rattle.iot_world.specs.World.{AreUnarmed, LeavesDisks, MakesStep, GivesBack, joined_by, disks_of, ClientIs, client_count};
-    ghost use Rattle.iot_world.specs.World.{script_names};
-    ghost use Rattle.iot_world.specs.World.{LendsServer, LendsClient, IsReady};
-    ghost use Rattle.iot_world.specs.Deciding.{Decides, DecidesIn};
+    ghost use Rattle.iot_world.specs.{Deciding.Decides, Deciding.DecidesIn, Disks.AreUnarmed};
+    ghost use Rattle.iot_world.specs.World.{ClientIs, DeclaredOn, EventSteps};
+    ghost use Rattle.iot_world.specs.World.{GivesBack, HasDisks, IsReady, IsWorldOfSome, KeepsDisks, LeavesDisks, LendsClient, LendsServer};
+    ghost use Rattle.iot_world.specs.World.{MakesStep, Opens, SameArms, StandsFor, client_count, disks_of, joined_by, script_names};
 
     /// The world before any event, with a server on the first of the disks, of which the last is the backup. Each client that is declared
     /// takes the next one of the others. If one of the server's disks fails in its start, the server has stopped, which is said.

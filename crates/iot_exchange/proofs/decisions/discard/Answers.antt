@@ -1,8 +1,7 @@
-use Rattle.std.proofs.Common.{◌++◌, List, ℕ, sym, ap, ◌∙◌}
-use Rattle.iot_exchange.specs.Words.{leave, discard_line, line}
+use Rattle.iot_exchange.proofs.Common.{List, ap, line, sym, ℕ, ◌++◌, ◌∙◌}
 use Rattle.iot_exchange.proofs.DoesLaws.{by_client, goes_from, hands_on, notes}
-use Rattle.iot_exchange.proofs.FirstLaws.{decided, undecided, decides}
-use Rattle.iot_exchange.proofs.StepsLaws.{says_from}
+use Rattle.iot_exchange.proofs.{FirstLaws.decided, FirstLaws.decides, FirstLaws.undecided, StepsLaws.says_from}
+use Rattle.iot_machine.specs.{Clients.leave, Texts.discard_line}
 use Rattle.iot_exchange.proofs.decisions.discard.Goals as goal
 
 pub discard-requires-clause-manual : goal.discard-requires-clause-manual

@@ -1,8 +1,7 @@
-use Rattle.std.proofs.Common.{◌++◌, List, ℕ, sym, ap, ◌∙◌}
-use Rattle.iot_exchange.specs.Words.{repair, line, repair_line}
+use Rattle.iot_exchange.proofs.Common.{List, ap, line, sym, ℕ, ◌++◌, ◌∙◌}
 use Rattle.iot_exchange.proofs.DoesLaws.{by_client, goes_from, hands_on, notes}
-use Rattle.iot_exchange.proofs.FirstLaws.{decided, undecided, decides}
-use Rattle.iot_exchange.proofs.StepsLaws.{says_from}
+use Rattle.iot_exchange.proofs.{FirstLaws.decided, FirstLaws.decides, FirstLaws.undecided, StepsLaws.says_from}
+use Rattle.iot_machine.specs.{Clients.repair, Texts.repair_line}
 use Rattle.iot_exchange.proofs.decisions.repair.Goals as goal
 
 pub repair-requires-clause-manual : goal.repair-requires-clause-manual

@@ -1,7 +1,6 @@
-use Rattle.iot_machine.proofs.PairLaws.{both_reached}
-use Rattle.iot_exchange.specs.Words.{is_up}
+use Rattle.iot_exchange.proofs.Common.{is_up}
 use Rattle.iot_exchange.proofs.ExchangeLaws.{away, comes, got, none_comes, reply_lost, request_lost}
-use Rattle.iot_exchange.proofs.FollowingLaws.{grows}
+use Rattle.{iot_exchange.proofs.FollowingLaws.grows, iot_machine.proofs.PairLaws.both_reached}
 use Rattle.iot_exchange.proofs.exchange.exchange.Goals as goal
 
 pub returns-in-Away-clause-replied : goal.returns-in-Away-clause-replied

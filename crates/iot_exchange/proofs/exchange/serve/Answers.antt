@@ -1,4 +1,4 @@
-use Rattle.iot_exchange.proofs.ExchangeLaws.{serves, replies}
+use Rattle.iot_exchange.proofs.ExchangeLaws.{replies, serves}
 use Rattle.iot_exchange.proofs.exchange.serve.Goals as goal
 
 pub returns-in_default-clause-asks : goal.returns-in_default-clause-asks

@@ -1,5 +1,4 @@
-use Rattle.std.proofs.Common.{◌≡◌, map, take}
-use Rattle.iot_exchange.specs.Saying.{line_of}
+use Rattle.{std.proofs.Common.take, iot_exchange.proofs.Common.line_of, iot_exchange.proofs.Common.map, iot_exchange.proofs.Common.◌≡◌}
 use Rattle.iot_exchange.proofs.looking.lines_of.Given as goal
 
 -- a line for each so far

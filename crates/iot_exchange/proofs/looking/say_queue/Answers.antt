@@ -1,8 +1,5 @@
-use Rattle.std.proofs.Common.{◌++◌, ap, ◌∙◌}
-use Rattle.std.proofs.lemmas.Result.{on_ok_weaker}
-use Rattle.iot_inspect.specs.Texts.{queue_text}
-use Rattle.iot_exchange.specs.Words.{State}
-use Rattle.iot_exchange.proofs.TransactionsLaws.{says_queue}
+use Rattle.iot_exchange.proofs.Common.{State, ap, on_ok_weaker, ◌++◌, ◌∙◌}
+use Rattle.{iot_exchange.proofs.TransactionsLaws.says_queue, iot_inspect.specs.Texts.queue_text}
 use Rattle.iot_exchange.proofs.looking.say_queue.Goals as goal
 
 pub returns : goal.returns

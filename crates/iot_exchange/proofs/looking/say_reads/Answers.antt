@@ -1,8 +1,5 @@
-use Rattle.std.proofs.Common.{ap, ◌∙◌}
-use Rattle.std.specs.Option.{option_copied}
-use Rattle.iot_exchange.specs.Words.{State}
-use Rattle.iot_exchange.proofs.DoesLaws.{tells, refuses}
-use Rattle.iot_exchange.proofs.TransactionsLaws.{reads_at}
+use Rattle.iot_exchange.proofs.Common.{State, ap, option_copied, ◌∙◌}
+use Rattle.iot_exchange.proofs.{DoesLaws.refuses, DoesLaws.tells, TransactionsLaws.reads_at}
 use Rattle.iot_exchange.proofs.looking.say_reads.Goals as goal
 
 pub returns-in_ok-reads-in-Some : goal.returns-in_ok-reads-in-Some

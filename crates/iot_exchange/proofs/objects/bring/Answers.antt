@@ -1,9 +1,6 @@
-use Rattle.std.proofs.Common.{refl}
-use Rattle.iot_exchange.specs.Words.{nothing_held, state_in, hold}
-use Rattle.iot_exchange.specs.Scripts.{errand_of}
-use Rattle.iot_exchange.specs.Pairs.{Objects}
-use Rattle.iot_exchange.proofs.DoesLaws.{hands_on, then_answers}
-use Rattle.iot_exchange.proofs.ExchangeLaws.{missed, no_reply, brings_own, holds_own}
+use Rattle.iot_exchange.proofs.{Common.Objects, Common.nothing_held, Common.refl, Common.state_in, DoesLaws.hands_on, DoesLaws.then_answers}
+use Rattle.iot_exchange.proofs.ExchangeLaws.{brings_own, holds_own, missed, no_reply}
+use Rattle.{iot_exchange.specs.Scripts.errand_of, iot_machine.specs.Clients.hold}
 use Rattle.iot_exchange.proofs.objects.bring.Goals as goal
 
 pub returns-then-not-is_connected-clause-does : goal.returns-then-not-is_connected-clause-does

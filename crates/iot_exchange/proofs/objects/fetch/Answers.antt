@@ -1,7 +1,5 @@
-use Rattle.std.proofs.Common.{refl}
-use Rattle.iot_exchange.specs.Words.{fetch, Refresh}
-use Rattle.iot_exchange.proofs.DoesLaws.{hands_on, then_answers}
-use Rattle.iot_exchange.proofs.ExchangeLaws.{no_reply, brings_own, holds_own}
+use Rattle.iot_exchange.proofs.{Common.Refresh, Common.refl, DoesLaws.hands_on, DoesLaws.then_answers, ExchangeLaws.brings_own}
+use Rattle.{iot_exchange.proofs.ExchangeLaws.holds_own, iot_exchange.proofs.ExchangeLaws.no_reply, iot_machine.specs.Clients.fetch}
 use Rattle.iot_exchange.proofs.objects.fetch.Goals as goal
 
 pub exchange-requires-clause-request : goal.exchange-requires-clause-request

@@ -1,6 +1,5 @@
-use Rattle.std.proofs.Common.{ℕ, List, ◌++◌, ap, ◌∙◌}
-use Rattle.iot_exchange.specs.Words.{hoard_line}
-use Rattle.iot_exchange.proofs.DoesLaws.{hands_on, then_tells, no_memory}
+use Rattle.iot_exchange.proofs.{Common.List, Common.ap, Common.ℕ, Common.◌++◌, Common.◌∙◌, DoesLaws.hands_on, DoesLaws.no_memory}
+use Rattle.{iot_exchange.proofs.DoesLaws.then_tells, iot_machine.specs.Texts.hoard_line}
 use Rattle.iot_exchange.proofs.objects.hoard.Goals as goal
 
 pub returns-in_err-take : goal.returns-in_err-take

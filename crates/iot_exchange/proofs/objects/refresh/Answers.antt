@@ -1,6 +1,5 @@
-use Rattle.std.proofs.Common.{ℕ, List, ◌++◌, ap, ◌∙◌}
-use Rattle.iot_exchange.specs.Words.{refresh_line}
-use Rattle.iot_exchange.proofs.DoesLaws.{then_tells, hands_on, no_memory}
+use Rattle.iot_exchange.proofs.{Common.List, Common.ap, Common.ℕ, Common.◌++◌, Common.◌∙◌, DoesLaws.hands_on, DoesLaws.no_memory}
+use Rattle.{iot_exchange.proofs.DoesLaws.then_tells, iot_machine.specs.Texts.refresh_line}
 use Rattle.iot_exchange.proofs.objects.refresh.Goals as goal
 
 pub returns : goal.returns

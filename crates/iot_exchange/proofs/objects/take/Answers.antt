@@ -1,7 +1,6 @@
-use Rattle.std.proofs.Common.{Bool, Ok, sym, ap, ◌∙◌}
-use Rattle.iot_exchange.specs.Words.{took}
-use Rattle.iot_exchange.proofs.DoesLaws.{asks_then, refuses, answers, hands_on, goes_then, no_memory}
-use Rattle.iot_exchange.proofs.ExchangeLaws.{runs_here, pends_here}
+use Rattle.iot_exchange.proofs.Common.{Bool, Ok, ap, sym, ◌∙◌}
+use Rattle.iot_exchange.proofs.DoesLaws.{answers, asks_then, goes_then, hands_on, no_memory, refuses}
+use Rattle.{iot_exchange.proofs.ExchangeLaws.pends_here, iot_exchange.proofs.ExchangeLaws.runs_here, iot_machine.specs.Transactions.took}
 use Rattle.iot_exchange.proofs.objects.take.Goals as goal
 
 pub returns-then-runs : goal.returns-then-runs

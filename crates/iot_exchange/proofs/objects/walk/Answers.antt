@@ -1,6 +1,5 @@
-use Rattle.std.proofs.Common.{◌++◌, ◌∙◌}
-use Rattle.iot_exchange.specs.Words.{walk_line}
-use Rattle.iot_exchange.proofs.DoesLaws.{then_tells, hands_on, no_memory, ready_after}
+use Rattle.iot_exchange.proofs.{Common.◌++◌, Common.◌∙◌, DoesLaws.hands_on, DoesLaws.no_memory, DoesLaws.ready_after, DoesLaws.then_tells}
+use Rattle.iot_machine.specs.Texts.{walk_line}
 use Rattle.iot_exchange.proofs.objects.walk.Goals as goal
 
 pub returns-in_err-take : goal.returns-in_err-take

@@ -1,5 +1,4 @@
-use Rattle.std.proofs.Common.{sym, ◌∙◌}
-use Rattle.iot_exchange.proofs.DoesLaws.{or_says, if_silent, if_spoken}
+use Rattle.iot_exchange.proofs.{Common.sym, Common.◌∙◌, DoesLaws.if_silent, DoesLaws.if_spoken, DoesLaws.or_says}
 use Rattle.iot_exchange.proofs.queues.drain.Goals as goal
 
 pub returns-then-len-before : goal.returns-then-len-before

@@ -1,6 +1,6 @@
-use Rattle.std.proofs.Common.{Some, sym, ◌∙◌}
-use Rattle.iot_exchange.specs.Words.{Then, Asks, Answers, either, is_drained, Refreshes}
-use Rattle.iot_exchange.proofs.DoesLaws.{hands_on, goes_then, asks_then, answers, ready_after, anyhow, still, drained_is}
+use Rattle.iot_exchange.proofs.Common.{Answers, Asks, Some, Then, either, is_drained, sym, ◌∙◌}
+use Rattle.iot_exchange.proofs.DoesLaws.{answers, anyhow, asks_then, drained_is, goes_then, hands_on, ready_after, still}
+use Rattle.iot_exchange.specs.Words.{Refreshes}
 use Rattle.iot_exchange.proofs.queues.drain_quietly.Goals as goal
 
 pub returns-in_err-sync_all : goal.returns-in_err-sync_all

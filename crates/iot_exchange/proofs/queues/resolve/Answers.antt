@@ -1,11 +1,8 @@
-use Rattle.std.proofs.Common.{rules, tests, bytes_eq}
-use Rattle.std.proofs.lemmas.Iterator.{YieldsList-from_slice}
-use Rattle.std.proofs.lemmas.Iterator.Search.{find_from_yields_List}
-use Rattle.iot_exchange.specs.Words.{IsInConflict, NoMemory}
-use Rattle.iot_exchange.proofs.NamesLaws.{code_found, none_found}
-use Rattle.iot_exchange.proofs.DoesLaws.{hands_on, then_tells, keeps_more, no_memory}
-use Rattle.iot_exchange.proofs.ExchangeLaws.{asks_whole, whole_came}
-use Rattle.iot_exchange.proofs.FirstLaws.{head_is, declared_for, resolves_away, resolves_told, synced_err}
+use Rattle.std.proofs.{Common.tests, lemmas.Iterator.YieldsList-from_slice, lemmas.Iterator.Search.find_from_yields_List}
+use Rattle.iot_exchange.proofs.{Common.NoMemory, Common.bytes_eq, Common.rules, DoesLaws.hands_on, DoesLaws.keeps_more}
+use Rattle.iot_exchange.proofs.{DoesLaws.no_memory, DoesLaws.then_tells, ExchangeLaws.asks_whole, ExchangeLaws.whole_came}
+use Rattle.iot_exchange.proofs.FirstLaws.{declared_for, head_is, resolves_away, resolves_told, synced_err}
+use Rattle.{iot_exchange.proofs.NamesLaws.code_found, iot_exchange.proofs.NamesLaws.none_found, iot_kept.specs.Changes.IsInConflict}
 use Rattle.iot_exchange.proofs.queues.resolve.Goals as goal
 
 pub exchange-requires-clause-request : goal.exchange-requires-clause-request

@@ -1,9 +1,7 @@
-use Rattle.std.proofs.Common.{◌++◌, ap, sym, ◌∙◌}
-use Rattle.std.proofs.lemmas.Option.{same_Some}
-use Rattle.iot_exchange.specs.Words.{IsSubmitted, done, name_of, NoMemory}
-use Rattle.iot_exchange.specs.Saying.{told_text, told_synced}
-use Rattle.iot_exchange.proofs.DoesLaws.{hands_on, then_tells, keeps_more, no_memory}
-use Rattle.iot_exchange.proofs.FirstLaws.{head_is, verdict_came, submits_away, submits_told, synced_err}
+use Rattle.iot_exchange.proofs.Common.{NoMemory, ap, done, name_of, same_Some, sym, told_synced, told_text, ◌++◌, ◌∙◌}
+use Rattle.iot_exchange.proofs.DoesLaws.{hands_on, keeps_more, no_memory, then_tells}
+use Rattle.iot_exchange.proofs.FirstLaws.{head_is, submits_away, submits_told, synced_err, verdict_came}
+use Rattle.iot_kept.specs.Changes.{IsSubmitted}
 use Rattle.iot_exchange.proofs.queues.submit.Goals as goal
 
 pub exchange-requires-clause-request : goal.exchange-requires-clause-request

@@ -1,5 +1,5 @@
-use Rattle.std.proofs.Common.{sym, ◌∙◌}
-use Rattle.iot_exchange.proofs.FirstLaws.{first_of, none_waits, some_waits, syncs_none, syncs_by_hand, decided, is_undecided, syncs_away}
+use Rattle.iot_exchange.proofs.Common.{sym, ◌∙◌}
+use Rattle.iot_exchange.proofs.FirstLaws.{decided, first_of, is_undecided, none_waits, some_waits, syncs_away, syncs_by_hand, syncs_none}
 use Rattle.iot_exchange.proofs.queues.sync.Goals as goal
 
 pub returns-in_default : goal.returns-in_default

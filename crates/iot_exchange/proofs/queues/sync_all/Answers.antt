@@ -1,9 +1,7 @@
-use Rattle.std.proofs.Common.{Err, refl, sym, ap, ◌∙◌}
-use Rattle.iot_exchange.specs.Words.{moves, sync_if}
-use Rattle.iot_exchange.specs.Saying.{synced_by}
-use Rattle.iot_exchange.proofs.DoesLaws.{one_more, last_round, halted_round, all_rounds, ready_after, asks_then, answers}
-use Rattle.iot_exchange.proofs.DoesLaws.{hands_on, then_answers, all_by}
-use Rattle.iot_exchange.proofs.ExchangeLaws.{pends_here}
+use Rattle.iot_exchange.proofs.Common.{Err, ap, refl, sym, synced_by, ◌∙◌}
+use Rattle.iot_exchange.proofs.DoesLaws.{all_by, all_rounds, answers, asks_then, halted_round, hands_on, last_round, one_more, ready_after}
+use Rattle.iot_exchange.proofs.{DoesLaws.then_answers, ExchangeLaws.pends_here}
+use Rattle.iot_machine.specs.Transactions.{moves, sync_if}
 use Rattle.iot_exchange.proofs.queues.sync_all.Goals as goal
 
 pub returns-then-not-waits : goal.returns-then-not-waits

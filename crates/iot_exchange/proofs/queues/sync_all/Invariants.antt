@@ -1,7 +1,4 @@
-use Rattle.iot_exchange.specs.Pairs.{two, IsReadyWith}
-use Rattle.iot_exchange.specs.Queues.{SyncsNext}
-use Rattle.iot_exchange.specs.Scripts.{scripts_of}
-use Rattle.iot_exchange.proofs.DoesLaws.{SoFar}
+use Rattle.iot_exchange.proofs.{Common.IsReadyWith, Common.SyncsNext, Common.scripts_of, Common.two, DoesLaws.SoFar}
 use Rattle.iot_exchange.proofs.queues.sync_all.Given as goal
 
 -- what is left after these makes the whole, and the two are ready for it

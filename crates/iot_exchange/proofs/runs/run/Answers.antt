@@ -1,8 +1,6 @@
-use Rattle.std.proofs.Common.{refl, sym, ◌∙◌}
-use Rattle.iot_exchange.specs.Words.{Begins, Goes, runs_through}
-use Rattle.iot_exchange.specs.Scripts.{script_of}
-use Rattle.iot_exchange.proofs.DoesLaws.{asks_then, refuses, answers, goes_then, hands_on, ready_after, up_is}
-use Rattle.iot_exchange.proofs.ExchangeLaws.{full_here}
+use Rattle.iot_exchange.proofs.Common.{Goes, refl, runs_through, script_of, sym, ◌∙◌}
+use Rattle.iot_exchange.proofs.DoesLaws.{answers, asks_then, goes_then, hands_on, ready_after, refuses, up_is}
+use Rattle.iot_exchange.{proofs.ExchangeLaws.full_here, specs.Words.Begins}
 use Rattle.iot_exchange.proofs.runs.run.Goals as goal
 
 pub returns-then-is_full : goal.returns-then-is_full

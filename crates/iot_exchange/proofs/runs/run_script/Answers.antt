@@ -1,6 +1,4 @@
-use Rattle.std.proofs.Common.{Some}
-use Rattle.iot_exchange.specs.Words.{Ends, runs_through}
-use Rattle.iot_exchange.proofs.DoesLaws.{hands_on, goes_then, ready_after}
+use Rattle.iot_exchange.proofs.{Common.Ends, Common.Some, Common.runs_through, DoesLaws.goes_then, DoesLaws.hands_on, DoesLaws.ready_after}
 use Rattle.iot_exchange.proofs.runs.run_script.Goals as goal
 
 pub returns-in_err-number : goal.returns-in_err-number

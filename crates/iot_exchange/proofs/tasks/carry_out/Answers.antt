@@ -1,10 +1,6 @@
-use Rattle.std.proofs.Common.{refl, sym, ap, ◌∙◌}
-use Rattle.iot_exchange.specs.Words.{Declared, script_at}
-use Rattle.iot_exchange.specs.Saying.{synced_by}
-use Rattle.iot_exchange.specs.Scripts.{scripts_of}
-use Rattle.iot_exchange.specs.declared.declared.DeclaredScript.{DeclaredScript}
-use Rattle.iot_exchange.proofs.DoesLaws.{hands_on, then_answers, tells}
-use Rattle.iot_exchange.proofs.NamesLaws.{script_there, named_there, meant_there}
+use Rattle.iot_exchange.proofs.Common.{Declared, DeclaredScript, ap, refl, script_at, scripts_of, sym, synced_by, ◌∙◌}
+use Rattle.iot_exchange.proofs.DoesLaws.{hands_on, tells, then_answers}
+use Rattle.iot_exchange.proofs.NamesLaws.{meant_there, named_there, script_there}
 use Rattle.iot_exchange.proofs.tasks.carry_out.Goals as goal
 
 pub returns-in_err-_synced-in-Sync : goal.returns-in_err-_synced-in-Sync

@@ -1,7 +1,5 @@
-use Rattle.std.proofs.Common.{Err, sym, ap, ◌∙◌}
-use Rattle.std.proofs.lemmas.Result.{on_ok_weaker}
-use Rattle.iot_exchange.specs.Words.{Halt}
-use Rattle.iot_exchange.proofs.DoesLaws.{keeps_standing, says_down, all_done, all_over}
+use Rattle.iot_exchange.proofs.Common.{Err, Halt, ap, on_ok_weaker, sym, ◌∙◌}
+use Rattle.iot_exchange.proofs.DoesLaws.{all_done, all_over, keeps_standing, says_down}
 use Rattle.iot_exchange.proofs.tasks.perform.Goals as goal
 
 pub returns-then-not-is_alive-clause-step : goal.returns-then-not-is_alive-clause-step

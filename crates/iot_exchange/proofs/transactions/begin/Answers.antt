@@ -1,7 +1,5 @@
-use Rattle.std.proofs.Common.{false, sym, ◌∙◌}
-use Rattle.iot_exchange.specs.Words.{KeepsTrails}
-use Rattle.iot_exchange.specs.Scripts.{script_of}
-use Rattle.iot_exchange.proofs.DoesLaws.{asks_then, refuses, goes_then, hands_on, by_client, starts, ready_after, unless_done}
+use Rattle.iot_exchange.proofs.Common.{KeepsTrails, false, script_of, sym, ◌∙◌}
+use Rattle.iot_exchange.proofs.DoesLaws.{asks_then, by_client, goes_then, hands_on, ready_after, refuses, starts, unless_done}
 use Rattle.iot_exchange.proofs.ExchangeLaws.{full_here, pends_here}
 use Rattle.iot_exchange.proofs.transactions.begin.Goals as goal
 

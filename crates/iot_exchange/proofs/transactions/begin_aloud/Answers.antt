@@ -1,9 +1,7 @@
-use Rattle.std.proofs.Common.{◌++◌, ◌∙◌, ap, refl, sym}
-use Rattle.std.specs.Prelude.{option_map}
-use Rattle.std.specs.Option.{option_copied}
-use Rattle.iot_exchange.specs.Words.{Closes, Transaction, begin_line, begin_text, transaction_name}
-use Rattle.iot_exchange.proofs.DoesLaws.{goes_then, hands_on, ready_after, tells}
+use Rattle.iot_exchange.proofs.Common.{Closes, Transaction, ap, begin_line, option_copied, option_map, refl, sym, transaction_name, ◌++◌}
+use Rattle.iot_exchange.proofs.{Common.◌∙◌, DoesLaws.goes_then, DoesLaws.hands_on, DoesLaws.ready_after, DoesLaws.tells}
 use Rattle.iot_exchange.proofs.TransactionsLaws.{begun_said, lent_run, none_said}
+use Rattle.iot_machine.specs.Events.{begin_text}
 use Rattle.iot_exchange.proofs.transactions.begin_aloud.Goals as goal
 
 pub returns-in_err-number : goal.returns-in_err-number

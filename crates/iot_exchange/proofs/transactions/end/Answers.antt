@@ -1,6 +1,5 @@
-use Rattle.std.proofs.Common.{◌++◌, ◌∙◌, Ok, ap, sym}
-use Rattle.iot_laptop.specs.declared.needs.Certified.{Certified}
-use Rattle.iot_exchange.specs.Words.{Asks, KeepsTrails, Then, Transaction, again_line, compared_if, end_by, if_runs, name_of, next_of}
+use Rattle.iot_exchange.proofs.Common.{Asks, Certified, KeepsTrails, Ok}
+use Rattle.iot_exchange.proofs.Common.{Then, Transaction, again_line, ap, compared_if, end_by, if_runs, name_of, next_of, sym, ◌++◌, ◌∙◌}
 use Rattle.iot_exchange.proofs.DoesLaws.{asks_then, by_client, certifies_one, hands_on, keeps_more, no_memory, ready_after, refuses}
 use Rattle.iot_exchange.proofs.TransactionsLaws.{certified_then, end_again, end_joined, none_meant, not_ended, trails_found}
 use Rattle.iot_exchange.proofs.transactions.end.Goals as goal

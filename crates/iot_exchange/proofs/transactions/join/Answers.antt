@@ -1,10 +1,6 @@
-use Rattle.std.proofs.Common.{◌∙◌, Ok, ap}
-use Rattle.iot_exchange.specs.Queues.{ended_as}
-use Rattle.iot_exchange.specs.Saying.{synced_by}
-use Rattle.iot_exchange.specs.Words.{waits_unless}
-use Rattle.iot_exchange.specs.declared.synced.Synced.{Synced}
-use Rattle.iot_exchange.proofs.DoesLaws.{answers, goes_then, hands_on, tells}
-use Rattle.iot_exchange.proofs.TransactionsLaws.{ends_aloud}
+use Rattle.iot_exchange.proofs.Common.{Ok, ap, ended_as, synced_by, ◌∙◌}
+use Rattle.iot_exchange.proofs.{DoesLaws.answers, DoesLaws.goes_then, DoesLaws.hands_on, DoesLaws.tells, TransactionsLaws.ends_aloud}
+use Rattle.{iot_exchange.specs.declared.synced.Synced.Synced, iot_machine.specs.Transactions.waits_unless}
 use Rattle.iot_exchange.proofs.transactions.join.Goals as goal
 
 pub returns-then-not-gone : goal.returns-then-not-gone

@@ -1,10 +1,8 @@
-use Rattle.std.proofs.Common.{◌∙◌, Ok, ap, refl, true}
-use Rattle.iot_tree.specs.declared.want.Want.TheVariants as wanted
-use Rattle.iot_exchange.specs.Words.{Step, act_once, fetched}
+use Rattle.iot_exchange.proofs.Common.{Ok, Step, act_once, ap, fetched, refl, true, ◌∙◌}
 use Rattle.iot_exchange.proofs.DoesLaws.{answers, by_client, goes_then, hands_on, keeps_more, keeps_then, no_memory, ready_by, then_answers}
-use Rattle.iot_exchange.proofs.DoesLaws.{yields_then}
-use Rattle.iot_exchange.proofs.TransactionsLaws.{acts_by, fetched_loud, fetched_quiet, lent_run, step_halted, steps_by, steps_none}
-use Rattle.iot_exchange.proofs.TransactionsLaws.{yields_there}
+use Rattle.iot_exchange.proofs.{DoesLaws.yields_then, TransactionsLaws.acts_by}
+use Rattle.iot_exchange.proofs.TransactionsLaws.{fetched_loud, fetched_quiet, lent_run, step_halted, steps_by, steps_none, yields_there}
+use Rattle.iot_tree.specs.declared.want.Want.TheVariants as wanted
 use Rattle.iot_exchange.proofs.transactions.step.Goals as goal
 
 pub returns-in_default : goal.returns-in_default

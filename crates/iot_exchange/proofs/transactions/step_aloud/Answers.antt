@@ -1,6 +1,4 @@
-use Rattle.std.proofs.Common.{◌++◌, ◌∙◌, refl, sym}
-use Rattle.iot_exchange.specs.Saying.{place_said}
-use Rattle.iot_exchange.specs.Words.{if_runs, step_line, transaction_name}
+use Rattle.iot_exchange.proofs.Common.{if_runs, place_said, refl, step_line, sym, transaction_name, ◌++◌, ◌∙◌}
 use Rattle.iot_exchange.proofs.DoesLaws.{asks_then, hands_on, no_memory, ready_after, refuses, then_tells}
 use Rattle.iot_exchange.proofs.TransactionsLaws.{aloud, aloud_by, lent_run, none_meant, none_said, stepped_said}
 use Rattle.iot_exchange.proofs.transactions.step_aloud.Goals as goal

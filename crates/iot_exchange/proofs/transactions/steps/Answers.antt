@@ -1,4 +1,4 @@
-use Rattle.iot_exchange.proofs.DoesLaws.{one_more, last_round, halted_round, all_rounds, ready_after}
+use Rattle.iot_exchange.proofs.DoesLaws.{all_rounds, halted_round, last_round, one_more, ready_after}
 use Rattle.iot_exchange.proofs.transactions.steps.Goals as goal
 
 pub returns-in_err-step : goal.returns-in_err-step

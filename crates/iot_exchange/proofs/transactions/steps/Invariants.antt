@@ -1,7 +1,5 @@
-use Rattle.std.proofs.Common.{List}
-use Rattle.iot_exchange.specs.Words.{Declared, Steps}
-use Rattle.iot_exchange.specs.Pairs.{two, IsReady}
-use Rattle.iot_exchange.proofs.DoesLaws.{SoFar}
+use Rattle.iot_exchange.proofs.Common.{Declared, List, Steps, two}
+use Rattle.iot_exchange.{proofs.DoesLaws.SoFar, specs.Pairs.IsReady}
 use Rattle.iot_exchange.proofs.transactions.steps.Given as goal
 
 -- what is left after these steps makes the whole

@@ -1,5 +1,4 @@
-use Rattle.std.proofs.Common.{◌≡◌, ◌++◌, take}
-use Rattle.iot_machine.specs.Texts.{output}
+use Rattle.{iot_laptop.proofs.Common.take, iot_laptop.proofs.Common.◌++◌, iot_laptop.proofs.Common.◌≡◌, iot_machine.specs.Texts.output}
 use Rattle.iot_laptop.proofs.texts.say_lines.Given as goal
 
 -- the lines so far are said

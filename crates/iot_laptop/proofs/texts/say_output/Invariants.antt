@@ -1,5 +1,4 @@
-use Rattle.std.proofs.Common.{◌≡◌, ◌++◌, take}
-use Rattle.iot_laptop.specs.Below.{acts_output}
+use Rattle.iot_laptop.proofs.Common.{acts_output, take, ◌++◌, ◌≡◌}
 use Rattle.iot_laptop.proofs.texts.say_output.Given as goal
 
 -- the lines of the acts so far are said

@@ -1,6 +1,4 @@
-use Rattle.iot_world.proofs.Common.{sym, ap, ◌∙◌}
-use Rattle.iot_world.specs.Prelude.{State}
-use Rattle.iot_world.proofs.LookingLaws.{tells_live}
+use Rattle.iot_world.proofs.{Common.State, Common.ap, Common.sym, Common.◌∙◌, LookingLaws.tells_live}
 use Rattle.iot_world.proofs.looking.tell.Goals as goal
 
 pub returns : goal.returns

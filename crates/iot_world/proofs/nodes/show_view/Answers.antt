@@ -1,6 +1,4 @@
-use Rattle.iot_world.proofs.Common.{sym, ◌∙◌}
-use Rattle.iot_world.proofs.WorldsLaws.{then_ok}
-use Rattle.iot_world.proofs.LookingLaws.{shows, shows_down}
+use Rattle.iot_world.proofs.{Common.sym, Common.◌∙◌, LookingLaws.shows, LookingLaws.shows_down, WorldsLaws.then_ok}
 use Rattle.iot_world.proofs.nodes.show_view.Goals as goal
 
 pub returns-then-is_alive : goal.returns-then-is_alive

@@ -1,8 +1,5 @@
-use Rattle.std.proofs.Common.{ap, ◌∙◌, ◌++◌}
-use Rattle.std.proofs.lemmas.Result.{IfOk-weaker}
-use Rattle.iot_laptop.specs.Below.{name_of}
-use Rattle.iot_machine.specs.Texts.{cut_line}
-use Rattle.iot_node.specs.declared.lines.Transaction.{Transaction}
+use Rattle.iot_laptop.proofs.Common.{IfOk-weaker, ap, cut_line, ◌++◌, ◌∙◌}
+use Rattle.{iot_laptop.specs.Below.name_of, iot_node.specs.declared.lines.Transaction.Transaction}
 use Rattle.iot_laptop.proofs.laptop.Laptop.+cut_off.Goals as goal
 
 pub returns-in_ok-say_cut-in-Ok-Some-clause-cuts : goal.returns-in_ok-say_cut-in-Ok-Some-clause-cuts

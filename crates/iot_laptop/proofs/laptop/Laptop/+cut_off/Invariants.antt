@@ -1,5 +1,4 @@
-use Rattle.std.proofs.Common.{length}
-use Rattle.iot_laptop.specs.Laptops.{state_in}
+use Rattle.iot_laptop.proofs.Common.{length, state_in}
 use Rattle.iot_laptop.proofs.laptop.Laptop.+cut_off.Given as goal
 
 -- one less runs each time

@@ -1,8 +1,4 @@
-use Rattle.std.proofs.lemmas.Result.{IfOk-weaker}
-use Rattle.iot_laptop.specs.Below.{no_text}
-use Rattle.iot_laptop.proofs.CallsLaws.{again_trails}
-use Rattle.iot_laptop.proofs.RestartLaws.{arms}
-use Rattle.iot_laptop.proofs.SeatsLaws.{besides_again}
+use Rattle.iot_laptop.proofs.{CallsLaws.again_trails, Common.IfOk-weaker, Common.no_text, RestartLaws.arms, SeatsLaws.besides_again}
 use Rattle.iot_laptop.proofs.laptop.Laptop.arm.Goals as goal
 
 pub returns-clause-step : goal.returns-clause-step

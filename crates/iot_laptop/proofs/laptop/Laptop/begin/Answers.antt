@@ -1,7 +1,4 @@
-use Rattle.std.proofs.Common.{rules}
-use Rattle.iot_laptop.proofs.CallsLaws.{called}
-use Rattle.iot_laptop.proofs.RunningLaws.{begins}
-use Rattle.iot_laptop.proofs.CallsLaws.{noted_trails}
+use Rattle.iot_laptop.proofs.{CallsLaws.called, CallsLaws.noted_trails, Common.rules, RunningLaws.begins}
 use Rattle.iot_laptop.proofs.laptop.Laptop.begin.Goals as goal
 
 pub returns : goal.returns

@@ -1,5 +1,4 @@
-use Rattle.std.proofs.Common.{[]}
-use Rattle.iot_laptop.proofs.RestartLaws.{over_second}
+use Rattle.iot_laptop.proofs.{Common.[], RestartLaws.over_second}
 use Rattle.iot_laptop.proofs.laptop.Laptop.broke.Goals as goal
 
 pub returns-clause-after : goal.returns-clause-after

@@ -1,7 +1,5 @@
-use Rattle.std.proofs.Common.{true}
-use Rattle.iot_link.specs.Links.{connected}
+use Rattle.iot_laptop.proofs.{Common.connected, Common.true, RestartLaws.relinks}
 use Rattle.iot_machine.specs.Texts.{connect_line}
-use Rattle.iot_laptop.proofs.RestartLaws.{relinks}
 use Rattle.iot_laptop.proofs.laptop.Laptop.connect.Goals as goal
 
 pub returns-clause-step : goal.returns-clause-step

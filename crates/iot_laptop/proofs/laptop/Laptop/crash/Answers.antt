@@ -1,8 +1,4 @@
-use Rattle.iot_laptop.specs.Below.{no_text}
-use Rattle.std.proofs.lemmas.Result.{IfOk-weaker}
-use Rattle.iot_laptop.proofs.CallsLaws.{off_trails}
-use Rattle.iot_laptop.proofs.CallsLaws.{if_two}
-use Rattle.iot_laptop.proofs.RestartLaws.{crashes}
+use Rattle.iot_laptop.proofs.{CallsLaws.if_two, CallsLaws.off_trails, Common.IfOk-weaker, Common.no_text, RestartLaws.crashes}
 use Rattle.iot_laptop.proofs.laptop.Laptop.crash.Goals as goal
 
 pub returns-clause-step : goal.returns-clause-step

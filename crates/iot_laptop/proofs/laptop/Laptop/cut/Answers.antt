@@ -1,5 +1,4 @@
-use Rattle.std.proofs.Common.{refl, rules}
-use Rattle.iot_laptop.proofs.CallsLaws.{Called}
+use Rattle.iot_laptop.proofs.{CallsLaws.Called, Common.refl, Common.rules}
 use Rattle.iot_laptop.proofs.CuttingLaws.{cut_by, cut_keeps, fewer_by, returns_by}
 use Rattle.iot_laptop.proofs.laptop.Laptop.cut.Goals as goal
 

@@ -1,6 +1,4 @@
-use Rattle.std.proofs.Common.{sym, ◌∙◌}
-use Rattle.iot_laptop.proofs.NodesLaws.{some_awake}
-use Rattle.iot_laptop.proofs.RestartLaws.{cuts_live, stands_over}
+use Rattle.iot_laptop.proofs.{Common.sym, Common.◌∙◌, NodesLaws.some_awake, RestartLaws.cuts_live, RestartLaws.stands_over}
 use Rattle.iot_laptop.proofs.laptop.Laptop.cut_link.Goals as goal
 
 pub second-requires : goal.second-requires

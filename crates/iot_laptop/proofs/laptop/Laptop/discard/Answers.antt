@@ -1,6 +1,4 @@
-use Rattle.std.proofs.Common.{rules}
-use Rattle.iot_laptop.proofs.CallsLaws.{as_is, called, leaves}
-use Rattle.iot_laptop.proofs.CallsLaws.{noted_trails}
+use Rattle.iot_laptop.proofs.{CallsLaws.as_is, CallsLaws.called, CallsLaws.leaves, CallsLaws.noted_trails, Common.rules}
 use Rattle.iot_laptop.proofs.laptop.Laptop.discard.Goals as goal
 
 pub returns : goal.returns

@@ -1,5 +1,4 @@
-use Rattle.std.proofs.Common.{refl, rules, sym}
-use Rattle.iot_laptop.proofs.CallsLaws.{called}
+use Rattle.iot_laptop.proofs.{CallsLaws.called, Common.refl, Common.rules, Common.sym}
 use Rattle.iot_laptop.proofs.RunningLaws.{end_trails, ends_by, is_done, is_gone, waits_then}
 use Rattle.iot_laptop.proofs.laptop.Laptop.end.Goals as goal
 

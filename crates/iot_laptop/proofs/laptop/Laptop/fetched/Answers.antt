@@ -1,6 +1,4 @@
-use Rattle.std.proofs.Common.{refl, rules}
-use Rattle.iot_laptop.proofs.CallsLaws.{takes_stamps}
-use Rattle.iot_laptop.proofs.CallsLaws.{as_is, brings, called}
+use Rattle.iot_laptop.proofs.{CallsLaws.as_is, CallsLaws.brings, CallsLaws.called, CallsLaws.takes_stamps, Common.refl, Common.rules}
 use Rattle.iot_standing.proofs.KeptLaws.{fetched_live}
 use Rattle.iot_laptop.proofs.laptop.Laptop.fetched.Goals as goal
 

@@ -1,7 +1,5 @@
-use Rattle.std.proofs.Common.{refl, sym, ◌∙◌}
-use Rattle.std.proofs.lemmas.Result.{IfOk-weaker}
-use Rattle.iot_laptop.specs.Below.{no_text}
 use Rattle.iot_laptop.proofs.CallsLaws.{was_ok, was_stopped}
+use Rattle.iot_laptop.proofs.Common.{IfOk-weaker, no_text, refl, sym, ◌∙◌}
 use Rattle.iot_laptop.proofs.laptop.Laptop.goes_on.Goals as goal
 
 pub returns-clause-goes : goal.returns-clause-goes

@@ -1,6 +1,4 @@
-use Rattle.iot_link.specs.Links.{arming}
-use Rattle.iot_machine.specs.Texts.{lose_line}
-use Rattle.iot_laptop.proofs.RestartLaws.{relinks}
+use Rattle.{iot_laptop.proofs.RestartLaws.relinks, iot_link.specs.Links.arming, iot_machine.specs.Texts.lose_line}
 use Rattle.iot_laptop.proofs.laptop.Laptop.lose.Goals as goal
 
 pub returns-clause-step : goal.returns-clause-step

@@ -1,12 +1,5 @@
-use Rattle.std.proofs.Common.{◌≡◌, Some, ap, option_map, sym, ◌∙◌}
-use Rattle.std.specs.Option.{option_copied}
-use Rattle.std.specs.Prelude.{leb}
-use Rattle.iot_kept.specs.Memory.{transaction}
-use Rattle.iot_kept.specs.States.{numbered}
-use Rattle.iot_laptop.proofs.FindingLaws.{full_in}
-use Rattle.iot_laptop.specs.Below.{Transaction}
-use Rattle.iot_laptop.specs.Laptops.{state_in}
-use Rattle.iot_tree.specs.declared.limits.TheConstants.{ACT_LIMIT}
+use Rattle.iot_laptop.proofs.Common.{ACT_LIMIT, Some, Transaction, ap, leb, numbered, option_copied, option_map, state_in, sym, transaction}
+use Rattle.iot_laptop.proofs.{Common.◌∙◌, Common.◌≡◌, FindingLaws.full_in}
 use Rattle.iot_laptop.proofs.laptop.Laptop.may_end.Goals as goal
 
 pub returns-in-Some : goal.returns-in-Some

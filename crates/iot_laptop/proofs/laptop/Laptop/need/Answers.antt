@@ -1,20 +1,13 @@
-use Rattle.std.proofs.Common.{◌≡◌, ℕ, List, [], ◌∷◌, Some, sym, ap, ◌∙◌}
-use Rattle.std.specs.Option.{option_copied}
-use Rattle.std.proofs.lemmas.Option.{same_Some}
 use Rattle.iot_access.specs.Access.{lines_of}
-use Rattle.iot_client.specs.Messages.{IsAsked, IsSubmission}
+use Rattle.{iot_client.specs.Messages.IsAsked, iot_client.specs.Messages.IsSubmission, iot_kept.specs.Changes.IsSubmittedIn}
+use Rattle.iot_laptop.proofs.Common.{Item, Laptop, List, Some, State}
+use Rattle.iot_laptop.proofs.Common.{acts_in, acts_output, ap, head_of, option_copied, same_Some, state_in, sym, ℕ, [], ◌∙◌, ◌∷◌, ◌≡◌}
+use Rattle.iot_laptop.specs.{Below.HeadIs, Calls.IsNeed, Calls.access_in, Calls.label_in, declared.needs.Submitted.Submitted}
+use Rattle.iot_queue.specs.declared.items.Stage.{Stage}
+use Rattle.iot_wire.specs.{Messages.IsMessage, Rules.IsRequest, Spelling.request_spelling, declared.requests.Request.TheVariants.Commit}
 use Rattle.iot_client.specs.declared.asks.Ask.TheVariants as asks
-use Rattle.iot_kept.specs.Changes.{IsSubmittedIn}
-use Rattle.iot_laptop.specs.Below.{HeadIs, Item, Laptop, Stage, State, acts_output, head_of}
-use Rattle.iot_laptop.specs.Calls.{IsNeed, access_in, acts_in, label_in}
-use Rattle.iot_laptop.specs.Laptops.{state_in}
 use Rattle.iot_laptop.specs.declared.needs.Need.TheVariants as needs
-use Rattle.iot_laptop.specs.declared.needs.Submitted.{Submitted}
 use Rattle.iot_queue.specs.declared.items.Stage.TheVariants as stages
-use Rattle.iot_wire.specs.Messages.{IsMessage}
-use Rattle.iot_wire.specs.Rules.{IsRequest}
-use Rattle.iot_wire.specs.Spelling.{request_spelling}
-use Rattle.iot_wire.specs.declared.requests.Request.TheVariants.{Commit}
 use Rattle.iot_laptop.proofs.laptop.Laptop.need.Goals as goal
 
 -- one that asks for a commit is submitted, and asks for that of what it submits

@@ -1,7 +1,4 @@
-use Rattle.iot_laptop.specs.Below.{no_text}
-use Rattle.std.proofs.lemmas.Result.{IfOk-weaker}
-use Rattle.iot_laptop.proofs.CallsLaws.{fresh_trails}
-use Rattle.iot_laptop.proofs.RestartLaws.{opens}
+use Rattle.iot_laptop.proofs.{CallsLaws.fresh_trails, Common.IfOk-weaker, Common.no_text, RestartLaws.opens}
 use Rattle.iot_laptop.proofs.laptop.Laptop.open.Goals as goal
 
 pub returns-clause-step : goal.returns-clause-step

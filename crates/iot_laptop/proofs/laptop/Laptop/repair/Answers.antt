@@ -1,6 +1,4 @@
-use Rattle.std.proofs.Common.{rules}
-use Rattle.iot_laptop.proofs.CallsLaws.{as_is, called, repairs}
-use Rattle.iot_laptop.proofs.CallsLaws.{noted_trails}
+use Rattle.iot_laptop.proofs.{CallsLaws.as_is, CallsLaws.called, CallsLaws.noted_trails, CallsLaws.repairs, Common.rules}
 use Rattle.iot_laptop.proofs.laptop.Laptop.repair.Goals as goal
 
 pub returns : goal.returns

@@ -1,8 +1,5 @@
-use Rattle.std.proofs.Common.{refl, rules}
-use Rattle.std.proofs.lemmas.Result.{IfOk-weaker}
-use Rattle.iot_laptop.proofs.CallsLaws.{goes_trails}
-use Rattle.iot_client.proofs.TrailsLaws.{noted_trails}
-use Rattle.iot_laptop.proofs.CallsLaws.{as_is, called, resolves}
+use Rattle.{iot_client.proofs.TrailsLaws.noted_trails, iot_laptop.proofs.CallsLaws.as_is}
+use Rattle.iot_laptop.proofs.{CallsLaws.called, CallsLaws.goes_trails, CallsLaws.resolves, Common.IfOk-weaker, Common.refl, Common.rules}
 use Rattle.iot_laptop.proofs.laptop.Laptop.resolve.Goals as goal
 
 pub returns : goal.returns

@@ -1,11 +1,7 @@
-use Rattle.std.proofs.Common.{◌≡◌, Bool, sym, subst, rules, ◌∙◌}
-use Rattle.std.proofs.lemmas.Result.{IfOk-weaker}
-use Rattle.iot_laptop.specs.Below.{no_text}
 use Rattle.iot_laptop.proofs.CallsLaws.{fresh_trails}
-use Rattle.iot_laptop.proofs.RestartLaws.{CameBack, says_up, stops_again, came_again, is_back, comes_back, came_back}
-use Rattle.iot_laptop.proofs.RestartLaws.{keeps_then}
-use Rattle.iot_laptop.proofs.laptop.Laptop.restart.Given.{Over}
-use Rattle.iot_laptop.proofs.laptop.Laptop.restart.Goals.{In_ok-come_back}
+use Rattle.iot_laptop.proofs.Common.{Bool, IfOk-weaker, no_text, rules, subst, sym, ◌∙◌, ◌≡◌}
+use Rattle.iot_laptop.proofs.RestartLaws.{CameBack, came_again, came_back, comes_back, is_back, keeps_then, says_up, stops_again}
+use Rattle.iot_laptop.proofs.laptop.Laptop.restart.{Given.Over, Goals.In_ok-come_back}
 use Rattle.iot_laptop.proofs.laptop.Laptop.restart.Goals as goal
 
 -- how its node came back, or did not

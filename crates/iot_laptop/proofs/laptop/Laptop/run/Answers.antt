@@ -1,9 +1,6 @@
-use Rattle.std.proofs.Common.{◌≡◌, find, rules, sym, tests}
-use Rattle.std.specs.Option.{option_copied}
-use Rattle.std.proofs.lemmas.Iterator.{YieldsList-from_slice}
-use Rattle.std.proofs.lemmas.Iterator.Search.{find_from_yields_List}
+use Rattle.std.proofs.{Common.tests, lemmas.Iterator.YieldsList-from_slice, lemmas.Iterator.Search.find_from_yields_List}
+use Rattle.iot_laptop.proofs.Common.{find, live_in, option_copied, rules, sym, ◌≡◌}
 use Rattle.iot_laptop.proofs.FindingLaws.{found_class, found_transaction, has_tid}
-use Rattle.iot_laptop.specs.Laptops.{live_in}
 use Rattle.iot_laptop.proofs.laptop.Laptop.run.Goals as goal
 
 pub returns : goal.returns

@@ -1,5 +1,4 @@
-use Rattle.std.proofs.Common.{refl, rules}
-use Rattle.iot_laptop.proofs.CallsLaws.{called}
+use Rattle.iot_laptop.proofs.{CallsLaws.called, Common.refl, Common.rules}
 use Rattle.iot_laptop.proofs.RunningLaws.{next_by, step_trails, steps_by}
 use Rattle.iot_laptop.proofs.laptop.Laptop.step.Goals as goal
 

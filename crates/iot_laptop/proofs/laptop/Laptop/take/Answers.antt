@@ -1,7 +1,5 @@
-use Rattle.std.proofs.Common.{refl, rules}
-use Rattle.iot_laptop.proofs.CallsLaws.{as_is, brings, called, holds_beside}
-use Rattle.iot_laptop.proofs.CallsLaws.{takes_stamps}
-use Rattle.iot_standing.proofs.KeptLaws.{held_live}
+use Rattle.iot_laptop.proofs.CallsLaws.{as_is, brings, called, holds_beside, takes_stamps}
+use Rattle.iot_laptop.proofs.Common.{held_live, refl, rules}
 use Rattle.iot_laptop.proofs.laptop.Laptop.take.Goals as goal
 
 pub returns : goal.returns

@@ -1,6 +1,5 @@
-use Rattle.std.proofs.Common.{rules}
 use Rattle.iot_client.proofs.TrailsLaws.{verdict_own}
-use Rattle.iot_laptop.proofs.CallsLaws.{called, noted_trails, takes_verdict}
+use Rattle.iot_laptop.proofs.{CallsLaws.called, CallsLaws.noted_trails, CallsLaws.takes_verdict, Common.rules}
 use Rattle.iot_laptop.proofs.laptop.Laptop.take_verdict.Goals as goal
 
 pub returns-in-Ok : goal.returns-in-Ok

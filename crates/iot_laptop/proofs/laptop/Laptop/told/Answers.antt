@@ -1,7 +1,5 @@
-use Rattle.std.proofs.Common.{◌≡◌, Some, sym, ap, ◌∙◌}
-use Rattle.iot_laptop.specs.Laptops.{state_in}
-use Rattle.iot_laptop.specs.Below.{reads_of, head_of}
 use Rattle.iot_laptop.proofs.CallsLaws.{head_has}
+use Rattle.iot_laptop.proofs.Common.{Some, ap, head_of, reads_of, state_in, sym, ◌∙◌, ◌≡◌}
 use Rattle.iot_laptop.proofs.laptop.Laptop.told.Goals as goal
 
 pub returns : goal.returns

@@ -1,7 +1,5 @@
-use Rattle.std.proofs.Common.{sym, subst, ◌∙◌}
-use Rattle.iot_laptop.specs.Below.{State}
+use Rattle.iot_laptop.proofs.Common.{State, StateKept, subst, sym, ◌∙◌}
 use Rattle.iot_laptop.proofs.seated.SeatedKeeper.arm.Goals as goal
-use Rattle.iot_standing.specs.Kept.{StateKept}
 
 pub returns-clause-stands : goal.returns-clause-stands
 returns-clause-stands g c = λ place n s here. record {

@@ -1,4 +1,4 @@
-use Rattle.iot_node.proofs.PostsLaws.{post_arms_up, post_arms_down}
+use Rattle.iot_node.proofs.PostsLaws.{post_arms_down, post_arms_up}
 use Rattle.iot_node.proofs.post.Post.arm.Goals as goal
 
 pub returns-in-Up-clause-step : goal.returns-in-Up-clause-step

@@ -1,7 +1,7 @@
 use Rattle.std.proofs.Common.{inr, refl, sym, ◌∙◌}
 use Rattle.iot_machine.specs.Stops.{ComesBackAs}
+use Rattle.iot_node.proofs.PostsLaws.{came, can_start, lasts_up, post_back, post_stops_again, same_counts}
 use Rattle.iot_node.specs.Posts.{words_of}
-use Rattle.iot_node.proofs.PostsLaws.{can_start, post_back, post_stops_again, same_counts, lasts_up, came}
 use Rattle.iot_node.proofs.post.Post.come_back.Goals as goal
 
 pub returns-in_err-say_back-in-Ok-clause-lasts : goal.returns-in_err-say_back-in-Ok-clause-lasts

@@ -1,5 +1,5 @@
 use Rattle.std.proofs.Common.{sym, ◌∙◌}
-use Rattle.iot_node.proofs.PostsLaws.{post_crash_down, post_crash_up, on_has}
+use Rattle.iot_node.proofs.PostsLaws.{on_has, post_crash_down, post_crash_up}
 use Rattle.iot_node.proofs.post.Post.crash.Goals as goal
 
 pub returns-then-not-is_up-clause-step : goal.returns-then-not-is_up-clause-step

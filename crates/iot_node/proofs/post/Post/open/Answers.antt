@@ -1,6 +1,5 @@
-use Rattle.std.proofs.Common.{inr, refl, sym, ◌∙◌}
-use Rattle.iot_machine.specs.Stops.{OpensNode}
-use Rattle.iot_node.proofs.PostsLaws.{can_start, post_opens, post_stops_again, lasts_up}
+use Rattle.{std.proofs.Common.inr, std.proofs.Common.refl, std.proofs.Common.sym, std.proofs.Common.◌∙◌, iot_machine.specs.Stops.OpensNode}
+use Rattle.iot_node.proofs.PostsLaws.{can_start, lasts_up, post_opens, post_stops_again}
 use Rattle.iot_node.proofs.post.Post.open.Goals as goal
 
 pub returns-in-Ok-clause-step : goal.returns-in-Ok-clause-step

@@ -1,6 +1,5 @@
 use Rattle.std.proofs.Common.{Err, ap, ◌∙◌}
-use Rattle.iot_node.specs.Prelude.{JournalFault}
-use Rattle.iot_node.proofs.PostsLaws.{post_goes, post_stops}
+use Rattle.iot_node.{proofs.PostsLaws.post_goes, proofs.PostsLaws.post_stops, specs.Prelude.JournalFault}
 use Rattle.iot_node.proofs.post.Post.take.Goals as goal
 
 pub returns-in-Ok-clause-step : goal.returns-in-Ok-clause-step

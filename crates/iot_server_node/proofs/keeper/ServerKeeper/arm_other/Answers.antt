@@ -1,5 +1,4 @@
-use Rattle.iot_server_node.proofs.DisksLaws.{reads_both}
-use Rattle.iot_server_node.proofs.KeepersLaws.{still_keeps}
+use Rattle.iot_server_node.proofs.{DisksLaws.reads_both, KeepersLaws.still_keeps}
 use Rattle.iot_server_node.proofs.keeper.ServerKeeper.arm_other.Goals as goal
 
 pub returns-clause-stands : goal.returns-clause-stands

@@ -1,5 +1,4 @@
-use Rattle.iot_server_node.proofs.Common.{refl}
-use Rattle.iot_server_node.proofs.CountsLaws.{disks_kept}
+use Rattle.iot_server_node.proofs.{Common.refl, CountsLaws.disks_kept}
 use Rattle.iot_server_node.proofs.keeper.ServerKeeper.handle.Goals as goal
 
 pub returns-in-Ok-clause-disk : goal.returns-in-Ok-clause-disk

@@ -1,5 +1,4 @@
-use Rattle.iot_server_node.proofs.KeepersLaws.{stands_for}
-use Rattle.iot_server_node.proofs.PairsLaws.{may_start}
+use Rattle.iot_server_node.proofs.{KeepersLaws.stands_for, PairsLaws.may_start}
 use Rattle.iot_server_node.proofs.StartingLaws.{alone_comes, alone_fails, is_there, only_first, only_second, pair_comes, pair_fails}
 use Rattle.iot_server_node.proofs.keeper.ServerKeeperKeeperDisks.start.Goals as goal
 

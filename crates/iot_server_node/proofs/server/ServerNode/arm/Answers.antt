@@ -1,11 +1,7 @@
-use Rattle.std.proofs.Common.{ap, ◌∙◌}
 use Rattle.std.proofs.lemmas.Result.{IfErr-weaker, on_ok_weaker}
+use Rattle.iot_server_node.proofs.Common.{ap, disk_of, disks_in, kept_text, on_both, ◌∙◌}
+use Rattle.iot_server_node.proofs.ServersLaws.{keeps_same, known_armed, with_known}
 use Rattle.iot_node.specs.Posts as posts
-use Rattle.iot_server_node.specs.Disks.{on_both}
-use Rattle.iot_server_node.specs.Keepers.{disks_in}
-use Rattle.iot_server_node.specs.Servers.{disk_of}
-use Rattle.iot_server_node.specs.Prelude.{kept_text}
-use Rattle.iot_server_node.proofs.ServersLaws.{with_known, keeps_same, known_armed}
 use Rattle.iot_server_node.proofs.server.ServerNode.arm.Goals as goal
 
 pub returns-clause-step : goal.returns-clause-step

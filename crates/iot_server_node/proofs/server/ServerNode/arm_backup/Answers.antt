@@ -1,7 +1,5 @@
-use Rattle.std.proofs.Common.{ap}
+use Rattle.iot_server_node.proofs.{BackupLaws.arms_down, BackupLaws.arms_up, BackupLaws.is_placed, Common.ap, Common.disks_in}
 use Rattle.iot_node.specs.Posts as posts
-use Rattle.iot_server_node.specs.Keepers.{disks_in}
-use Rattle.iot_server_node.proofs.BackupLaws.{arms_down, arms_up, is_placed}
 use Rattle.iot_server_node.proofs.server.ServerNode.arm_backup.Goals as goal
 
 pub arm_other-requires : goal.arm_other-requires

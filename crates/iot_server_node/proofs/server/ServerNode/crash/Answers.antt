@@ -1,8 +1,6 @@
-use Rattle.iot_server_node.proofs.Common.{ap, option_map, disk_of, ◌∙◌}
-use Rattle.iot_server_node.specs.Disks.{on_both, sides_of}
-use Rattle.iot_server_node.specs.Prelude.{kept_text}
+use Rattle.iot_server_node.proofs.Common.{ap, disk_of, kept_text, on_both, option_map, sides_of, ◌∙◌}
 use Rattle.iot_server_node.proofs.KeepersLaws.{if_ok_both}
-use Rattle.iot_server_node.proofs.ServersLaws.{with_known, known_crash, answered_off, keeps_same}
+use Rattle.iot_server_node.proofs.ServersLaws.{answered_off, keeps_same, known_crash, with_known}
 use Rattle.iot_server_node.proofs.server.ServerNode.crash.Goals as goal
 
 pub returns-clause-step : goal.returns-clause-step

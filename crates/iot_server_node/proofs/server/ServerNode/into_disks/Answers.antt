@@ -1,6 +1,4 @@
-use Rattle.std.proofs.Common.{Some, ap, refl}
-use Rattle.iot_server_node.specs.Prelude.{Disks}
-use Rattle.iot_server_node.proofs.BackupLaws.{is_placed, placed_in}
+use Rattle.iot_server_node.proofs.{BackupLaws.is_placed, BackupLaws.placed_in, Common.Disks, Common.Some, Common.ap, Common.refl}
 use Rattle.iot_server_node.proofs.server.ServerNode.into_disks.Goals as goal
 
 pub into_disk-requires : goal.into_disk-requires

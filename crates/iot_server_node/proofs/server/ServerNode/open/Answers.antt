@@ -1,6 +1,5 @@
-use Rattle.iot_server_node.specs.Prelude.{kept_text}
-use Rattle.iot_server_node.proofs.KeepersLaws.{if_ok_both}
-use Rattle.iot_server_node.proofs.ServersLaws.{is_ready, with_known, known_opens, answered_fresh}
+use Rattle.iot_server_node.proofs.{Common.kept_text, KeepersLaws.if_ok_both}
+use Rattle.iot_server_node.proofs.ServersLaws.{answered_fresh, is_ready, known_opens, with_known}
 use Rattle.iot_server_node.proofs.server.ServerNode.open.Goals as goal
 
 pub open-requires-clause-ready : goal.open-requires-clause-ready

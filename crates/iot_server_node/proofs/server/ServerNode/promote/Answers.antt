@@ -1,8 +1,6 @@
-use Rattle.iot_server_node.specs.Prelude.{arming_as, kept_text, promote_words}
-use Rattle.iot_server_node.specs.Servers.{turned_post}
 use Rattle.iot_server_node.proofs.BackupLaws.{over, promotes, promotes_came, promotes_records}
-use Rattle.iot_server_node.proofs.DecidingLaws.{decides}
-use Rattle.iot_server_node.proofs.ServersLaws.{answered_fresh}
+use Rattle.iot_server_node.proofs.Common.{arming_as, kept_text, promote_words, turned_post}
+use Rattle.iot_server_node.proofs.{DecidingLaws.decides, ServersLaws.answered_fresh}
 use Rattle.iot_server_node.proofs.server.ServerNode.promote.Goals as goal
 
 pub come_back-requires-clause-stands : goal.come_back-requires-clause-stands

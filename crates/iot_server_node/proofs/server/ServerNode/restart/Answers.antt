@@ -1,10 +1,7 @@
-use Rattle.iot_server_node.proofs.Common.{asks, bind, false, nothing, sym, ◌∙◌}
-use Rattle.iot_server_node.specs.Prelude.{kept_text}
-use Rattle.iot_server_node.proofs.DecidingLaws.{decides}
-use Rattle.iot_server_node.specs.Deciding.{images_for}
-use Rattle.iot_server_node.specs.Prelude.{Restart, restart_words, server_name}
-use Rattle.iot_server_node.proofs.ServersLaws.{keeps_own}
-use Rattle.iot_server_node.proofs.ServersLaws.{up_is, with_known, known_comes_back, answered_fresh}
+use Rattle.iot_machine.{proofs.StepsLaws.nothing, specs.Texts.restart_words}
+use Rattle.iot_server_node.proofs.Common.{asks, bind, false, kept_text, server_name, sym, ◌∙◌}
+use Rattle.iot_server_node.proofs.{DecidingLaws.decides, ServersLaws.answered_fresh, ServersLaws.keeps_own, ServersLaws.known_comes_back}
+use Rattle.iot_server_node.{proofs.ServersLaws.up_is, proofs.ServersLaws.with_known, specs.Deciding.images_for, specs.Prelude.Restart}
 use Rattle.iot_server_node.proofs.server.ServerNode.restart.Goals as goal
 
 pub returns-clause-step : goal.returns-clause-step

@@ -1,11 +1,8 @@
-use Rattle.iot_server_node.proofs.Common.{◌∙◌, committed_since, refl}
-use Rattle.std.proofs.Common.{Err, rules, ◌≡◌}
-use Rattle.iot_disk.specs.declared.faults.JournalFault.TheVariants.{Stopped}
-use Rattle.iot_node.specs.declared.halt.Halt.TheVariants.{Over}
-use Rattle.iot_server_node.specs.Prelude.{kept_text}
-use Rattle.iot_server_node.proofs.ServingLaws.{lends, stays_stamped, lends_always, judges, judges_stopped}
-use Rattle.iot_server_node.proofs.ServersLaws.{live_is}
-use Rattle.iot_server_node.proofs.BeginningLaws.{handled_records, refused_records}
+use Rattle.std.proofs.Common.{rules}
+use Rattle.{iot_disk.specs.declared.faults.JournalFault.TheVariants.Stopped, iot_node.specs.declared.halt.Halt.TheVariants.Over}
+use Rattle.iot_server_node.proofs.{BeginningLaws.handled_records, BeginningLaws.refused_records, Common.Err}
+use Rattle.iot_server_node.proofs.{Common.committed_since, Common.kept_text, Common.refl, Common.◌∙◌, Common.◌≡◌, ServersLaws.live_is}
+use Rattle.iot_server_node.proofs.ServingLaws.{judges, judges_stopped, lends, lends_always, stays_stamped}
 use Rattle.iot_server_node.proofs.server.ServerNode.serve.Goals as goal
 
 pub handle-answer-requires-clause-synced : goal.handle-answer-requires-clause-synced

@@ -1,12 +1,9 @@
-use Rattle.iot_world.proofs.Common.{append-nil, commits_same, refl, rules, sym}
+use Rattle.iot_world.proofs.Common.{append-nil, commits_same, refl, rules, says, sym}
+use Rattle.iot_world.proofs.{DecidingLaws.decides_promoted, DeclaringLaws.declares_script, DisksLaws.armed_leaves}
+use Rattle.iot_world.proofs.{DisksLaws.nothing_leaves, DisksLaws.server_keeps, DisksLaws.server_leaves, PlacesLaws.promoted_follows}
+use Rattle.iot_world.proofs.WorldsLaws.{arms_backup, at_server, both_ok, grown, promotes, restarts, then_ok}
 use Rattle.iot_event.specs.declared.event.Event.TheVariants as events
 use Rattle.iot_event.specs.declared.event.NodeEvent.TheVariants as nodes
-use Rattle.iot_machine.proofs.StepsLaws.{says}
-use Rattle.iot_world.proofs.DecidingLaws.{decides_promoted}
-use Rattle.iot_world.proofs.DisksLaws.{armed_leaves, nothing_leaves, server_keeps, server_leaves}
-use Rattle.iot_world.proofs.DeclaringLaws.{declares_script}
-use Rattle.iot_world.proofs.PlacesLaws.{promoted_follows}
-use Rattle.iot_world.proofs.WorldsLaws.{arms_backup, at_server, both_ok, grown, promotes, restarts, then_ok}
 use Rattle.iot_world.proofs.world.World.act.Goals as goal
 
 pub returns-in_ok-push-in-Script-clause-step : goal.returns-in_ok-push-in-Script-clause-step

@@ -1,8 +1,6 @@
-use Rattle.std.proofs.Common.{◌≡◌, ◌++◌, ℕ, List, [], rules}
-use Rattle.std.specs.Prelude.{Result, Ok, Err, OnOk, OnErr}
-use Rattle.iot_text.specs.Texts.{Extends}
-use Rattle.iot_text.proofs.TextsLaws.{extends_by}
-use Rattle.iot_world.proofs.WorldsLaws.{then_ok, behind, event_steps, steps_some}
+use Rattle.{std.specs.Prelude.OnErr, iot_text.proofs.TextsLaws.extends_by}
+use Rattle.iot_world.proofs.Common.{Err, Extends, List, Ok, OnOk, Result, rules, ℕ, [], ◌++◌, ◌≡◌}
+use Rattle.iot_world.proofs.WorldsLaws.{behind, event_steps, steps_some, then_ok}
 use Rattle.iot_world.proofs.world.World.apply.Goals as goal
 
 pub returns-then-is_empty-clause-stands : goal.returns-then-is_empty-clause-stands

@@ -1,7 +1,6 @@
-use Rattle.iot_world.proofs.Common.{false, refl, commits_kept}
-use Rattle.iot_world.proofs.DecidingLaws.{decides_here}
-use Rattle.iot_world.proofs.DisksLaws.{client_leaves, server_keeps, server_same}
-use Rattle.iot_world.proofs.WorldsLaws.{node_keeps, link_keeps, at_client, at_task, both_ok, then_ok}
+use Rattle.{iot_server_node.proofs.BeginningLaws.commits_kept, iot_world.proofs.Common.false}
+use Rattle.iot_world.proofs.{Common.refl, DecidingLaws.decides_here, DisksLaws.client_leaves, DisksLaws.server_keeps, DisksLaws.server_same}
+use Rattle.iot_world.proofs.WorldsLaws.{at_client, at_task, both_ok, link_keeps, node_keeps, then_ok}
 use Rattle.iot_world.proofs.world.World.at.Goals as goal
 
 pub returns-in-Node-clause-step : goal.returns-in-Node-clause-step

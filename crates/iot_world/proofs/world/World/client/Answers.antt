@@ -1,6 +1,5 @@
-use Rattle.iot_world.proofs.Common.{length, subst, ◌≤◌}
+use Rattle.iot_world.proofs.{Common.length, Common.subst, Common.◌≤◌, ListLaws.looked_up}
 use Rattle.iot_world.proofs.LookingLaws.{lends_any, lends_disk, lends_none, lends_ready}
-use Rattle.iot_world.proofs.ListLaws.{looked_up}
 use Rattle.iot_world.proofs.world.World.client.Goals as goal
 
 pub returns-in-Some-clause-lent : goal.returns-in-Some-clause-lent

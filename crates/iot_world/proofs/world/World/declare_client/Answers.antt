@@ -1,8 +1,6 @@
-use Rattle.iot_world.proofs.Common.{◌++◌, ◌∷◌, [], length, ap, refl, ◌∙◌}
 use Rattle.iot_laptop.specs.Laptops.{stamps_by}
-use Rattle.iot_world.proofs.DeclaringLaws.{declares, joins, joined_leaves}
-use Rattle.iot_world.proofs.DisksLaws.{nothing_leaves}
-use Rattle.iot_world.proofs.WorldsLaws.{then_ok}
+use Rattle.iot_world.proofs.{Common.ap, Common.length, Common.refl, Common.[], Common.◌++◌, Common.◌∙◌, Common.◌∷◌, DeclaringLaws.declares}
+use Rattle.iot_world.proofs.{DeclaringLaws.joined_leaves, DeclaringLaws.joins, DisksLaws.nothing_leaves, WorldsLaws.then_ok}
 use Rattle.iot_world.proofs.world.World.declare_client.Goals as goal
 
 pub returns-in_err-reserve-clause-disks : goal.returns-in_err-reserve-clause-disks

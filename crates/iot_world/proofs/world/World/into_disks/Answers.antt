@@ -1,8 +1,5 @@
-use Rattle.iot_world.proofs.Common.{◌≡◌, List, [], ap, rules, sym, ◌∙◌}
-use Rattle.iot_world.specs.Prelude.{disk_of}
-use Rattle.iot_world.specs.World.{with_server}
-use Rattle.iot_world.proofs.DisksLaws.{left_one, last_has}
-use Rattle.iot_world.proofs.PlacesLaws.{other_there, server_list}
+use Rattle.iot_world.proofs.Common.{List, ap, disk_of, rules, sym, with_server, [], ◌∙◌, ◌≡◌}
+use Rattle.iot_world.proofs.{DisksLaws.last_has, DisksLaws.left_one, PlacesLaws.other_there, PlacesLaws.server_list}
 use Rattle.iot_world.proofs.world.World.into_disks.Goals as goal
 
 pub into_disk-requires : goal.into_disk-requires

@@ -1,6 +1,4 @@
-use Rattle.iot_world.proofs.Common.{length}
-use Rattle.iot_world.specs.Prelude.{vec_len, vec_capacity}
-use Rattle.iot_world.proofs.DisksLaws.{AreLeft}
+use Rattle.iot_world.proofs.{Common.length, Common.vec_capacity, Common.vec_len, DisksLaws.AreLeft}
 use Rattle.iot_world.proofs.world.World.into_disks.Given as goal
 
 abbrev pub invariant-laptops : goal.invariant-laptops

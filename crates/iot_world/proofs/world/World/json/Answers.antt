@@ -1,5 +1,4 @@
-use Rattle.iot_world.proofs.Common.{ap, ◌∙◌, state_of}
-use Rattle.iot_world.proofs.LookingLaws.{are_of}
+use Rattle.iot_world.proofs.{Common.ap, Common.state_of, Common.◌∙◌, LookingLaws.are_of}
 use Rattle.iot_world.proofs.world.World.json.Goals as goal
 
 pub finish-requires : goal.finish-requires

@@ -1,5 +1,4 @@
-use Rattle.iot_world.proofs.Common.{ap, ◌∙◌, state_of}
-use Rattle.iot_world.proofs.LookingLaws.{names_are, are_of, logs_up}
+use Rattle.iot_world.proofs.{Common.ap, Common.state_of, Common.◌∙◌, LookingLaws.are_of, LookingLaws.logs_up, LookingLaws.names_are}
 use Rattle.iot_world.proofs.world.World.log.Goals as goal
 
 pub log-requires : goal.log-requires

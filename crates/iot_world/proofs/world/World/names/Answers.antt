@@ -1,6 +1,5 @@
-use Rattle.std.proofs.Common.{rules, tests}
-use Rattle.std.proofs.lemmas.Iterator.{items_from_collect, YieldsList-from_map, YieldsList-from_slice}
-use Rattle.iot_world.specs.Prelude.{Laptop}
+use Rattle.std.proofs.{Common.tests, lemmas.Iterator.YieldsList-from_map, lemmas.Iterator.YieldsList-from_slice}
+use Rattle.{std.proofs.lemmas.Iterator.items_from_collect, iot_world.proofs.Common.Laptop, iot_world.proofs.Common.rules}
 use Rattle.iot_world.proofs.world.World.names.Goals as goal
 
 pub returns : goal.returns

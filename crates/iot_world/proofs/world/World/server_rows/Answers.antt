@@ -1,7 +1,6 @@
-use Rattle.iot_world.proofs.Common.{length, ap, ◌∙◌}
-use Rattle.iot_world.proofs.world.World.server_rows.Goals as goal
 use Rattle.std.specs.FinMap.{entries}
-use Rattle.iot_store.specs.Store.{state_of}
+use Rattle.iot_world.proofs.Common.{ap, length, state_of, ◌∙◌}
+use Rattle.iot_world.proofs.world.World.server_rows.Goals as goal
 
 pub returns-in-Some : goal.returns-in-Some
 returns-in-Some g c = λ m here.

@@ -1,6 +1,4 @@
-use Rattle.iot_world.proofs.Common.{length, ◌≤◌, subst}
-use Rattle.iot_world.proofs.LookingLaws.{tells_more, tells_all}
-use Rattle.iot_world.proofs.ListLaws.{looked_up}
+use Rattle.iot_world.proofs.{Common.length, Common.subst, Common.◌≤◌, ListLaws.looked_up, LookingLaws.tells_all, LookingLaws.tells_more}
 use Rattle.iot_world.proofs.world.World.told.Goals as goal
 
 pub loop-laptop-preserved : goal.loop-laptop-preserved
