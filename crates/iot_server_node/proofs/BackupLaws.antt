@@ -8,53 +8,56 @@ use Rattle.iot_server_node.proofs.Common.{disk_of, disks_in, false, inl, inr, is
 use Rattle.iot_server_node.proofs.Common.{promote_words, refl, same_Some, server_name, sides_of, subst, sym, traffic_in, true, turned_post}
 use Rattle.iot_server_node.proofs.{Common.ℕ, Common.◌+◌, Common.◌∙◌, Common.◌≡◌, PairsLaws.both_so, PairsLaws.other_left}
 use Rattle.iot_server_node.{proofs.ServersLaws.Posted, proofs.ServersLaws.known_comes_back, specs.Disks.ArmsOther}
-use Rattle.iot_server_node.specs.{Disks.IsPlaced, Disks.Sides, Disks.sides, Prelude.Arms, Prelude.Traffic, Prelude.armed_with}
+use Rattle.iot_server_node.specs.{Disks.IsPlaced, Disks.Sides, Disks.other_of, Disks.sides, Prelude.Arms, Prelude.Traffic, Prelude.armed_with}
 use Rattle.iot_server_node.specs.Servers.{ArmsServersBackup, HasBackup, HasOther, Promotes, given_up_in, is_promoted}
 use Rattle.iot_node.specs.Posts as posts
 
 -- ---- which disks there are
 
 module _ {D : Type 0} (medium : Medium D) where
-  -- there are disks, and they are in their places
-  pub record ArePlaced (disks : Option (Disks D)) (promoted : Bool) : Type 0 where
+  -- there are disks in their places, and the one beside the server's own was armed so
+  pub record ArePlaced (disks : Option (Disks D)) (promoted : Bool) (arms : Arms) : Type 0 where
     pub first : D
     pub last : D
-    pub is : disks ≡ Some (placed promoted first last)
+    pub has : disks ≡ Some (placed promoted first last)
+    pub beside : medium.arms (other_of promoted first last) ≡ arms
 
   placed_by : (promoted : Bool) (arms : Arms) (disk : D) (backup given_up : Option D)
       → sides_of medium (record { disk = disk; backup = backup; given_up = given_up }) ≡ sides promoted arms
-      → ArePlaced (Some (record { disk = disk; backup = backup; given_up = given_up })) promoted
-  placed_by false arms disk (Some backup) None same = record { first = disk; last = backup; is = refl }
-  placed_by true arms disk None (Some given_up) same = record { first = given_up; last = disk; is = refl }
+      → ArePlaced (Some (record { disk = disk; backup = backup; given_up = given_up })) promoted arms
+  placed_by false arms disk (Some last) None same =
+      record { first = disk; last = last; has = refl; beside = same_Some _ _ (ap (λ (s : Sides). s.backup) same) }
+  placed_by true arms disk None (Some first) same =
+      record { first = first; last = disk; has = refl; beside = same_Some _ _ (ap (λ (s : Sides). s.given_up) same) }
   placed_by promoted arms disk backup given_up same =
       let one = ap (λ (s : Sides). s.backup) same in
       let other = ap (λ (s : Sides). s.given_up) same in absurd cc
 
   pub placed_in : (disks : Option (Disks D)) (promoted : Bool) (arms : Arms)
-      → option_map (sides_of medium) disks ≡ Some (sides promoted arms) → ArePlaced disks promoted
+      → option_map (sides_of medium) disks ≡ Some (sides promoted arms) → ArePlaced disks promoted arms
   placed_in None promoted arms is = absurd cc
   placed_in (Some disks) promoted arms is = placed_by promoted arms disks.disk disks.backup disks.given_up (same_Some _ _ is)
 
   pub is_placed : (server : ServerNode D) → HasOther medium server → (disks : Disks D) → disk_of server ≡ Some disks → IsPlaced disks
   is_placed server other disks has =
       let it = placed_in (disk_of server) other.promoted other.arms other.beside.is in
-      record { promoted = other.promoted; first = it.first; last = it.last; is = same_Some _ _ (sym has ∙ it.is) }
+      record { promoted = other.promoted; first = it.first; last = it.last; is = same_Some _ _ (sym has ∙ it.has) }
 
   -- one that is down, and was not promoted, has its backup
-  down_by : (post : Post (ServerKeeper D) (Disks D)) (promoted : Bool) → is_on post ≡ false
-      → given_up_in (posts.disk_of disks_in post) ≡ false → ArePlaced (posts.disk_of disks_in post) promoted
+  down_by : (post : Post (ServerKeeper D) (Disks D)) (promoted : Bool) (arms : Arms) → is_on post ≡ false
+      → given_up_in (posts.disk_of disks_in post) ≡ false → ArePlaced (posts.disk_of disks_in post) promoted arms
       → HasBackup (record { post = post })
-  down_by (Down fallen) false off own it = record {
+  down_by (Down fallen) false arms off own it = record {
     first = it.first;
     last = it.last;
     doubt = fallen.doubt;
-    is = λ i. Down (record { disk = same_Some _ _ it.is i; doubt = fallen.doubt });
+    is = λ i. Down (record { disk = same_Some _ _ it.has i; doubt = fallen.doubt });
   }
-  down_by post promoted off own it = let given_up = ap given_up_in it.is in absurd cc
+  down_by post promoted arms off own it = let given_up = ap given_up_in it.has in absurd cc
 
   pub has_backup : (server : ServerNode D) → is_up server ≡ false → is_promoted server ≡ false → HasOther medium server → HasBackup server
   has_backup server down own other =
-      down_by server.post other.promoted down own (placed_in (disk_of server) other.promoted other.arms other.beside.is)
+      down_by server.post other.promoted other.arms down own (placed_in (disk_of server) other.promoted other.arms other.beside.is)
 
 -- ---- it goes on from its backup
 

@@ -55,6 +55,16 @@ abbrev pub placed : {D : Type 0} → (promoted : Bool) → (first last : D) → 
 placed false first last = record { disk = first; backup = Some last; given_up = None }
 placed true first last = record { disk = last; backup = None; given_up = Some first }
 
+-- of the server's two disks the one from which it starts: the first, or the last since that was promoted
+abbrev pub own_of : {A : Type 0} → (promoted : Bool) → (first last : A) → A
+own_of false first last = first
+own_of true first last = last
+
+-- and the one beside it: the backup, or the one that was given up
+abbrev pub other_of : {A : Type 0} → (promoted : Bool) → (first last : A) → A
+other_of false first last = last
+other_of true first last = first
+
 abbrev pub first_in : {D : Type 0} → (disk : D) → (backup given_up : Option D) → D
 first_in disk (Some backup) given_up = disk
 first_in disk None (Some given_up) = given_up
@@ -76,9 +86,9 @@ pub record IsPlaced {D : Type 0} (disks : Disks D) : Type 0 where
   pub last : D
   pub is : disks ≡ placed promoted first last
 
--- the first one is given up for its backup
+-- The first one is given up for its backup. What was given up before stands where that was: nothing, if they are in their places.
 abbrev pub turned_by : {D : Type 0} → Disks D → (backup : Option D) → Disks D
-turned_by disks (Some last) = record { disk = last; backup = None; given_up = Some disks.disk }
+turned_by disks (Some last) = record { disk = last; backup = disks.given_up; given_up = Some disks.disk }
 turned_by disks None = disks
 
 abbrev pub turned : {D : Type 0} → Disks D → Disks D

@@ -60,16 +60,12 @@ impl<D: Disk> Disks<D> {
 
     /// Gives the disk up for its backup, if it has one.
     pub(crate) fn turn(&mut self)
-        requires { is_some self.old.given_up ≡ false }
         ensures { self.new ≡ turned self.old }
     {
-        match self.backup.take() {
+        match &mut self.backup {
             Some(backup) => {
-                let first = mem::replace(&mut self.disk, backup);
-                match mem::replace(&mut self.given_up, Some(first)) {
-                    None => (),
-                    Some(_before) => unreachable!(),
-                }
+                mem::swap(&mut self.disk, backup);
+                mem::swap(&mut self.backup, &mut self.given_up);
             }
             None => (),
         }
@@ -80,20 +76,10 @@ impl<D: Disk> Disks<D> {
         requires { IsPlaced self }
         ensures { self ≡ placed (is_some self.given_up) result.0 result.1 }
     {
-        let Disks {
-            disk,
-            backup,
-            given_up,
-        } = self;
-        match backup {
-            Some(backup) => match given_up {
-                None => (disk, backup),
-                Some(_given_up) => unreachable!(),
-            },
-            None => match given_up {
-                Some(given_up) => (given_up, disk),
-                None => unreachable!(),
-            },
+        match (self.backup, self.given_up) {
+            (Some(backup), None) => (self.disk, backup),
+            (None, Some(given_up)) => (given_up, self.disk),
+            (Some(_), Some(_)) | (None, None) => unreachable!(),
         }
     }
 }

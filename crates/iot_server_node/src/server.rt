@@ -43,7 +43,7 @@ pub struct Served {
 impl<D: Disk> ServerNode<D> {
     ghost use Rattle.iot_judging.specs.Verdicts.{SpellsVerdict};
     ghost use Rattle.iot_server_node.specs.Messages.{IsSomeRequest, SpellsCut};
-    ghost use Rattle.iot_server_node.specs.Servers.{ArmsServersBackup, HasBackup, HasDisk, HasDisks, HasOther, HavingAnswered};
+    ghost use Rattle.iot_server_node.specs.Servers.{ArmsServersBackup, HasBackup, HasDisk, HasDisks, HasOther, HasPlaces, HavingAnswered};
     ghost use Rattle.iot_server_node.specs.Servers.{IsBeside, IsHanded, IsNamedIn, IsUnopened, KeepsBeside, KeepsCommits, LendsServer};
     ghost use Rattle.iot_server_node.specs.Servers.{Promotes, ServerIsSound, ServerStands, ServesBy, TurnsToBackup, answered_since};
     ghost use Rattle.iot_server_node.specs.Servers.{count_of, disk_of, is_promoted, is_up, lent_of, post_of, stamps_of, turned_post};
@@ -131,10 +131,8 @@ impl<D: Disk> ServerNode<D> {
                 let stopped: Result<(), JournalFault> = Err(fault);
                 match self.post.take(stopped, doubt, b"server", out) {
                     Ok(()) => Ok(None),
-                    Err(halt) => match halt {
-                        Halt::Over => Ok(None),
-                        Halt::NoMemory => Err(NoMemory),
-                    },
+                    Err(Halt::Over) => Ok(None),
+                    Err(Halt::NoMemory) => Err(NoMemory),
                 }
             }
         }
@@ -274,7 +272,7 @@ impl<D: Disk> ServerNode<D> {
 
     /// Gives its disks back: the first and the last.
     pub fn into_disks(self) -> (D, D)
-        requires { HasOther D.medium self }
+        requires { HasPlaces self }
         ensures { disk_of self ≡ Some (placed (is_promoted self) result.0 result.1) }
     {
         self.post.into_disk().into_places()

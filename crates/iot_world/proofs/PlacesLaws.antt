@@ -1,9 +1,10 @@
 -- The first disk and the last: lists that have both, and the places of the server's two.
 use Rattle.std.proofs.{Math.Nat.add_comm, lemmas.List.same_from_push}
-use Rattle.iot_server_node.specs.{Disks.Sides, Disks.sides, Disks.sides_of, Disks.turned, Keepers.disks_in}
-use Rattle.iot_server_node.specs.Servers.{HasOther, TurnsToBackup, given_up_in, turned_post}
+use Rattle.iot_server_node.{proofs.BackupLaws.ArePlaced, proofs.BackupLaws.placed_in}
+use Rattle.iot_server_node.specs.{Disks.sides_of, Disks.turned, Keepers.disks_in}
+use Rattle.iot_server_node.specs.Servers.{TurnsToBackup, given_up_in, turned_post}
 use Rattle.iot_world.proofs.Common.{Arms, Between, Bool, Disks, Down, HasPlaces, IsBeside}
-use Rattle.iot_world.proofs.Common.{KeepsDisk, List, Medium, None, Option, Post, ServerKeeper, ServerNode, Some, Up, ap, arith, disk_of}
+use Rattle.iot_world.proofs.Common.{KeepsDisk, List, Medium, Option, Post, ServerKeeper, ServerNode, Some, Up, ap, arith, disk_of}
 use Rattle.iot_world.proofs.Common.{drop, false, inl, inr, is_promoted, is_up, length, length-append, on_both, option_map, other_of, placed}
 use Rattle.iot_world.proofs.Common.{refl, same_Some, slice_index_or, subst, sym, true, with_ends, with_server, [], ◌+◌, ◌∙◌, ◌∷◌, ◌≡◌, ◌⊎◌}
 use Rattle.iot_world.specs.Disks.{AreTwoUnarmed, SameOrRose}
@@ -26,31 +27,12 @@ module _ {D : Type 0} (medium : Medium D) where
   -- ---- the places of the server's two disks
 
   -- it has these in their places, and the one beside its own was armed so
-  pub record ServerPlaced (server : ServerNode D) (promoted : Bool) (arms : Arms) : Type 0 where
-    pub first : D
-    pub last : D
-    pub has : disk_of server ≡ Some (placed promoted first last)
-    pub beside : medium.arms (other_of promoted first last) ≡ arms
+  abbrev pub ServerPlaced : (server : ServerNode D) (promoted : Bool) (arms : Arms) → Type 0
+  ServerPlaced server promoted arms = ArePlaced medium (disk_of server) promoted arms
 
-  placed_at : (promoted : Bool) (disk : D) (backup given_up : Option D) (arms : Arms)
-      → sides_of medium (record { disk = disk; backup = backup; given_up = given_up }) ≡ sides promoted arms
-      → (first : D) × (last : D) × (record { disk = disk; backup = backup; given_up = given_up } ≡ placed promoted first last)
-      × (medium.arms (other_of promoted first last) ≡ arms)
-  placed_at false disk (Some last) None arms is = (disk, last, refl, same_Some _ _ (ap (λ (s : Sides). s.backup) is))
-  placed_at true disk None (Some first) arms is = (first, disk, refl, same_Some _ _ (ap (λ (s : Sides). s.given_up) is))
-  placed_at promoted disk backup given_up arms is =
-      absurd (cc (ap (λ (s : Sides). s.backup) is, ap (λ (s : Sides). s.given_up) is))
-
-  pub server_placed : (server : ServerNode D) (promoted : Bool) (arms : Arms) → IsBeside medium server promoted arms
+  abbrev pub server_placed : (server : ServerNode D) (promoted : Bool) (arms : Arms) → IsBeside medium server promoted arms
       → ServerPlaced server promoted arms
-  server_placed server promoted arms it = by (disk_of server) refl it.is
-    where
-      by : (disks : Option (Disks D)) → disk_of server ≡ disks → option_map (sides_of medium) disks ≡ Some (sides promoted arms)
-          → ServerPlaced server promoted arms
-      by None has is = absurd cc
-      by (Some disks) has is =
-          let there = placed_at promoted disks.disk disks.backup disks.given_up arms (same_Some _ _ is) in
-          record { first = there.0; last = there.1; has = has ∙ ap (λ (d : Disks D). Some d) there.2; beside = there.3 }
+  server_placed server promoted arms it = placed_in medium (disk_of server) promoted arms it.is
 
   -- so its disks are in their places
   abbrev pub has_places : (server : ServerNode D) (promoted : Bool) (arms : Arms) → ServerPlaced server promoted arms → HasPlaces server
@@ -69,14 +51,6 @@ module _ {D : Type 0} (medium : Medium D) where
       → IsBeside medium server promoted (medium.arms (other_of promoted first last))
   placed_beside server false first last has = record { is = ap (option_map (sides_of medium)) has }
   placed_beside server true first last has = record { is = ap (option_map (sides_of medium)) has }
-
-  -- and the other way round
-  abbrev pub other_there : (server : ServerNode D) → HasPlaces server → HasOther medium server
-  other_there server it = record {
-    promoted = it.placed.promoted;
-    arms = medium.arms (other_of it.placed.promoted it.placed.first it.placed.last);
-    beside = placed_beside server it.placed.promoted it.placed.first it.placed.last (places_have server it);
-  }
 
   promoted_by : (promoted : Bool) (first last : D) → given_up_in (Some (placed promoted first last)) ≡ promoted
   promoted_by false first last = refl

@@ -4,6 +4,7 @@ use Rattle.std.specs.Prelude.{◌++◌, ◌+◌, ◌∷◌, ◌≡◌, ◌⊎◌
 use Rattle.{iot_count.specs.Counts.Rose, iot_judging.specs.Lists.state_of}
 use Rattle.{iot_machine.specs.Nodes.Counts, iot_machine.specs.Nodes.paired, iot_server_node.specs.Records.GoesOnFrom}
 use Rattle.iot_world.specs.Prelude.{AllByRecursion, Bool, Client, Commit, List, Machine, Medium, false, length, map, true, ℕ, []}
+pub use Rattle.iot_server_node.specs.Disks.{other_of, own_of}
 pub use Rattle.{std.specs.List.AllZip as Each, iot_node.specs.Disks.CountsOn, iot_node.specs.Disks.IsEmpty, iot_node.specs.Disks.counts_on}
 
 -- ten empty disks on which nothing is pending
@@ -23,16 +24,6 @@ pub record HasEnds {A : Type 0} (list : List A) : Type 0 where
   pub last : A
   pub others : List A
   pub is : list ≡ with_ends first last others
-
--- of the server's two disks the one from which it starts: the first, or the last since that was promoted
-abbrev pub own_of : {A : Type 0} → (promoted : Bool) → (first last : A) → A
-own_of false first last = first
-own_of true first last = last
-
--- and the one beside it: the backup, or the one that was given up
-abbrev pub other_of : {A : Type 0} → (promoted : Bool) → (first last : A) → A
-other_of false first last = last
-other_of true first last = first
 
 -- where the server's own disk stands among the ten, from 0
 abbrev pub place_of : (promoted : Bool) → ℕ

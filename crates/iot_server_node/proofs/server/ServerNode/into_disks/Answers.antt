@@ -1,11 +1,11 @@
-use Rattle.iot_server_node.proofs.{BackupLaws.is_placed, BackupLaws.placed_in, Common.Disks, Common.Some, Common.ap, Common.refl}
+use Rattle.iot_server_node.proofs.{Common.Disks, Common.Some, Common.ap, Common.refl, Common.same_Some, Common.sym, Common.◌∙◌}
 use Rattle.iot_server_node.proofs.server.ServerNode.into_disks.Goals as goal
 
 pub into_disk-requires : goal.into_disk-requires
-into_disk-requires g c place = rw (placed_in g.D.Disk.medium _ _ _ c.requires.beside.is).is refl
+into_disk-requires g c place = rw c.requires.has refl
 
 pub into_places-requires : goal.into_places-requires
-into_places-requires g c = is_placed g.D.Disk.medium c.args.self c.requires c.into_disk.result (c.into_disk.ensures 0)
+into_places-requires g c = rw (same_Some _ _ (sym c.requires.has ∙ c.into_disk.ensures 0)) at c.requires.placed
 
 pub returns : goal.returns
 returns g c = rw (c.into_disk.ensures 0) (ap (λ (d : Disks _). Some d) c.into_places.ensures)

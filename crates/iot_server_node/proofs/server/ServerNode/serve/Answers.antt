@@ -1,6 +1,6 @@
 use Rattle.std.proofs.Common.{rules}
-use Rattle.{iot_disk.specs.declared.faults.JournalFault.TheVariants.Stopped, iot_node.specs.declared.halt.Halt.TheVariants.Over}
-use Rattle.iot_server_node.proofs.{BeginningLaws.handled_records, BeginningLaws.refused_records, Common.Err}
+use Rattle.{iot_disk.specs.declared.faults.JournalFault.TheVariants.Stopped}
+use Rattle.iot_server_node.proofs.{BeginningLaws.handled_records, BeginningLaws.refused_records}
 use Rattle.iot_server_node.proofs.{Common.committed_since, Common.kept_text, Common.refl, Common.◌∙◌, Common.◌≡◌, ServersLaws.live_is}
 use Rattle.iot_server_node.proofs.ServingLaws.{judges, judges_stopped, lends, lends_always, stays_stamped}
 use Rattle.iot_server_node.proofs.server.ServerNode.serve.Goals as goal
@@ -38,16 +38,16 @@ returns-in-Ok-clause-records g c =
 
 -- ---- it gave no reply
 
-pub returns-in-Over-clause-lends : goal.returns-in-Over-clause-lends
-returns-in-Over-clause-lends g c client held errand names asks n =
-    let stopped = c.in-Err-take.ensures.stopped (λ i. Err (c.in-Over.is i)) in
+pub returns-in-Err-Over-clause-lends : goal.returns-in-Err-Over-clause-lends
+returns-in-Err-Over-clause-lends g c client held errand names asks n =
+    let stopped = c.take.ensures.stopped (rw c.in-Err-Over.field-0-is at c.in-Err-Over.is) in
     let is : c.in-Err.fault ≡ Stopped = cc in
     absurd (lends_always g.D.Disk.medium c.args.message.now client held errand asks
     (rw (c.deref.ensures.value, is) at c.in-Err.ensures.refused))
 
-pub returns-in-Over-clause-judges : goal.returns-in-Over-clause-judges
-returns-in-Over-clause-judges g c it names hands named =
-    let over : c.take.result ≡ Err Over = rw c.in-Over.is at c.in-Err-take.is in
+pub returns-in-Err-Over-clause-judges : goal.returns-in-Err-Over-clause-judges
+returns-in-Err-Over-clause-judges g c it names hands named =
+    let over = rw c.in-Err-Over.field-0-is at c.in-Err-Over.is in
     let stopped = c.take.ensures.stopped over in
     let is : c.in-Err.fault ≡ Stopped = cc in
     let stops =
@@ -61,24 +61,24 @@ returns-in_err-doubt-in-Err-clause-records g c =
     rw c.in-Up.is (refused_records g.D.Disk.medium g.met.D.Disk.reads_is_image c.in-Up.keeper _
     (rw (live_is c.in-Up.is) at c.requires.sound) c.in-Err.ensures.refused)
 
-pub returns-in-Over-clause-records : goal.returns-in-Over-clause-records
-returns-in-Over-clause-records g c =
+pub returns-in-Err-Over-clause-records : goal.returns-in-Err-Over-clause-records
+returns-in-Err-Over-clause-records g c =
     rw (c.in-Up.is, c.take.ensures.disk 0) (refused_records g.D.Disk.medium g.met.D.Disk.reads_is_image c.in-Up.keeper _
     (rw (live_is c.in-Up.is) at c.requires.sound) c.in-Err.ensures.refused)
 
-pub returns-in-NoMemory-clause-records : goal.returns-in-NoMemory-clause-records
-returns-in-NoMemory-clause-records g c =
+pub returns-in-Err-NoMemory-clause-records : goal.returns-in-Err-NoMemory-clause-records
+returns-in-Err-NoMemory-clause-records g c =
     rw (c.in-Up.is, c.take.ensures.disk 0) (refused_records g.D.Disk.medium g.met.D.Disk.reads_is_image c.in-Up.keeper _
     (rw (live_is c.in-Up.is) at c.requires.sound) c.in-Err.ensures.refused)
 
-pub returns-in-Over-clause-disk : goal.returns-in-Over-clause-disk
-returns-in-Over-clause-disk g c = rw (c.take.ensures.disk 0) (search rules)
+pub returns-in-Err-Over-clause-disk : goal.returns-in-Err-Over-clause-disk
+returns-in-Err-Over-clause-disk g c = rw (c.take.ensures.disk 0) (search rules)
 
-pub returns-in-NoMemory-clause-disk : goal.returns-in-NoMemory-clause-disk
-returns-in-NoMemory-clause-disk g c = rw (c.take.ensures.disk 0) (search rules)
+pub returns-in-Err-NoMemory-clause-disk : goal.returns-in-Err-NoMemory-clause-disk
+returns-in-Err-NoMemory-clause-disk g c = rw (c.take.ensures.disk 0) (search rules)
 
-pub returns-in-Over-clause-beside : goal.returns-in-Over-clause-beside
-returns-in-Over-clause-beside g c promoted arms it = record { is = rw (c.take.ensures.disk 0) (search rules) }
+pub returns-in-Err-Over-clause-beside : goal.returns-in-Err-Over-clause-beside
+returns-in-Err-Over-clause-beside g c promoted arms it = record { is = rw (c.take.ensures.disk 0) (search rules) }
 
-pub returns-in-NoMemory-clause-beside : goal.returns-in-NoMemory-clause-beside
-returns-in-NoMemory-clause-beside g c promoted arms it = record { is = rw (c.take.ensures.disk 0) (search rules) }
+pub returns-in-Err-NoMemory-clause-beside : goal.returns-in-Err-NoMemory-clause-beside
+returns-in-Err-NoMemory-clause-beside g c promoted arms it = record { is = rw (c.take.ensures.disk 0) (search rules) }

@@ -1,5 +1,5 @@
 use Rattle.iot_world.proofs.Common.{List, ap, disk_of, rules, sym, with_server, [], ◌∙◌, ◌≡◌}
-use Rattle.iot_world.proofs.{DisksLaws.last_has, DisksLaws.left_one, PlacesLaws.other_there, PlacesLaws.server_list}
+use Rattle.iot_world.proofs.{DisksLaws.last_has, DisksLaws.left_one, PlacesLaws.server_list}
 use Rattle.iot_world.proofs.world.World.into_disks.Goals as goal
 
 pub into_disk-requires : goal.into_disk-requires
@@ -10,9 +10,6 @@ pub laptops-preserved : goal.laptops-preserved
 laptops-preserved g c =
     left_one _ _ _ _ _ _ _ _ _ _ _ _ c.laptops.invariant c.in-Some.ensures.items
     c.into_disk.ensures c.put_first.ensures.items c.put_first.ensures.len c.put_first.ensures.capacity
-
-pub into_disks-first-requires : goal.into_disks-first-requires
-into_disks-first-requires g c = other_there g.D.Disk.medium c.args.self.server c.requires.server
 
 pub returns : goal.returns
 returns g c =

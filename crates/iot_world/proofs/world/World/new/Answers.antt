@@ -1,5 +1,5 @@
 use Rattle.iot_world.proofs.{Common.arith, Common.refl, Common.[], DeclaringLaws.all_fresh, DeclaringLaws.follows, DeclaringLaws.gives_back}
-use Rattle.iot_world.proofs.{DeclaringLaws.opens, DeclaringLaws.opens_unarmed, DeclaringLaws.rest_fresh, PlacesLaws.other_there}
+use Rattle.iot_world.proofs.{DeclaringLaws.opens, DeclaringLaws.opens_unarmed, DeclaringLaws.rest_fresh}
 use Rattle.iot_world.proofs.world.World.new.Goals as goal
 
 pub take_ends-first-requires : goal.take_ends-first-requires
@@ -32,7 +32,7 @@ returns-in-Ok-clause-arms g c =
 
 pub into_disks-first-requires : goal.into_disks-first-requires
 into_disks-first-requires g c =
-    other_there g.D.Disk.medium _ (follows g.D.Disk.medium _ _ _ _ c.take_ends-first.ensures.items c.requires _ _
+    (follows g.D.Disk.medium _ _ _ _ c.take_ends-first.ensures.items c.requires _ _
     c.unopened-server.ensures.disk c.open.ensures.beside c.open.ensures.disk).now
 
 pub returns-in-Err-clause-refused : goal.returns-in-Err-clause-refused
