@@ -14,7 +14,7 @@ use Rattle.iot_laptop.proofs.Common.{Before, Besides, Between, Bool, Call, CanFo
 use Rattle.iot_laptop.proofs.Common.{Code, CutsOff, Declared, EndsAlone, Err, Halt, IfErr, IfOk, IfOk-at_ok, IfOk-weaker, IsErrOf, IsLent}
 use Rattle.iot_laptop.proofs.Common.{IsScript, IsTied, IsTree, Item, KeepsDisk, KeepsTrails, KeptLive, Laptop, LaptopStands, List, Live}
 use Rattle.iot_laptop.proofs.Common.{MayFail, Medium, NoMemory, Node, None, Notes, NotesAlone, Ok, OnOk, Option, Over, Post, Result, Seated}
-use Rattle.iot_laptop.proofs.Common.{Some, StandWith, State, StateKept, StateStands, StepsFrom, StepsTo, Stopped, UnlessNoMemory, Up}
+use Rattle.iot_laptop.proofs.Common.{Some, State, StateKept, StateStands, StepsFrom, StepsTo, Stopped, UnlessNoMemory, Up}
 use Rattle.iot_laptop.proofs.Common.{UpStands, Writes, acts_in, after, answers, ap, besides, bind, disk_by, disk_of, done, false, head_of}
 use Rattle.iot_laptop.proofs.Common.{if◌then◌else◌, inl, inr, is_alive, is_on, live_by, live_in, live_of, lives_then, no_text, none_besides}
 use Rattle.iot_laptop.proofs.Common.{place_of, possibly_sure, reads_of, records_of, refl, rules, same_Some, same_counts, seating}
@@ -203,9 +203,8 @@ module _ {D T : Type 0} {medium : Medium D} {laptop : Laptop D} {was now : Clien
         ))
         (λ m here n text step there.
         let went : n ≡ changed next m.node = elim step [ inl it ↦ it.2 | inr stop ↦ absurd (not_both stop.1) ] in
-        subst (λ (n : Node ClientState). after_it (record laptop { post = new.post }) (record m { node = n })) (sym went)
-        (stand m here new.post (subst (Posted medium laptop new.post) went there)
-        (ap (λ (l : Laptop D). live_by l.post) (IfOk-at_ok _ same call.goes.same)))))
+        rw went
+        (stand m here new.post (rw went at there) (ap (λ (l : Laptop D). live_by l.post) (IfOk-at_ok _ same call.goes.same)))))
 
     -- or it stopped in that: each image is what the client keeps, without the record or with it
     pub halts_at : result ≡ Err Over → cuts change → StepsTo stands (ClientStands medium scripts) (Writes next) laptop new x y false
@@ -218,13 +217,9 @@ module _ {D T : Type 0} {medium : Medium D} {laptop : Laptop D} {was now : Clien
           answered m here (rw stopped (
             (λ n seat. record {
               each = λ image left. elim (cut.either.each image left) [
-                | inl before ↦
-                    inl (record { state = s; stands = subst (λ (k : ℕ). StandWith image k s) seat.counted before; kept = seat.kept })
-                | inr more ↦ inr (record {
-                  state = after s change;
-                  stands = subst (λ (k : ℕ). StandWith image (next_count k) (after s change)) seat.counted more;
-                  kept = (kept m here cut.follows).0;
-                })
+                | inl before ↦ inl (record { state = s; stands = rw seat.counted at before; kept = seat.kept })
+                | inr more ↦
+                    inr (record { state = after s change; stands = rw seat.counted at more; kept = (kept m here cut.follows).0 })
               ];
             }),
             record { faults = rw stopped at call.counts; arms = call.arms },
@@ -333,10 +328,9 @@ module _ {D T : Type 0} {medium : Medium D} {laptop : Laptop D} {was now : Clien
       let is : (read : RowChanges) → objects_in reply ≡ Ok read → bringing purpose (stamps_of was) read ≡ brought_for purpose t =
       λ read of. ap (brought_for purpose) (spelled_changes read only of spells) in
       let rows : IsTreeOfRows t =
-      subst IsTreeOfRows (sym spells.is)
-      (brought_spelled base spells.changes
+      rw spells.is (brought_spelled base spells.changes
       (base_spelled purpose (stamps_of was) (synced_spelled medium was.kept call.was_tied.synced).held) spells.spelled.value
-      (subst IsTree spells.is spells.tree)) in
+      (rw spells.is at spells.tree)) in
       alone scripts (other t) (brought_for purpose t)
       (IfOk-weaker answer _ _ (λ u it. subst (λ (change : Change). Notes change was now) (is it.changes it.read) it.notes) brought_by)
       lives (λ stopped. let it = stops stopped in subst cuts (is it.changes it.read) it.cuts_off)
@@ -359,10 +353,8 @@ module _ {D T : Type 0} {medium : Medium D} {laptop : Laptop D} {was now : Clien
       let is : (said : NotedIn) → noted_in reply ≡ Ok said → said ≡ noted_as told =
       λ said. said_as (head_reads s.items) reply told said (rw call.up at spells) only in
       alone scripts (told_change told option) (verdict_change (noted_as told))
-      (if_two answer reads notes (λ t read it. subst (λ (said : NotedIn). Notes (verdict_change said) was now) (is (noted t) read) it))
-      lives
-      (λ stopped.
-      let cut = stops stopped in subst (λ (said : NotedIn). cuts (verdict_change said)) (is cut.said cut.noted) cut.cuts_off)
+      (if_two answer reads notes (λ t read it. rw (is (noted t) read) at it)) lives
+      (λ stopped. let cut = stops stopped in rw (is cut.said cut.noted) at cut.cuts_off)
       (λ m here. told_live here.kept told option (rw call.up at first))
 
   -- a resolution
@@ -382,15 +374,13 @@ module _ {D T : Type 0} {medium : Medium D} {laptop : Laptop D} {was now : Clien
       alone_by scripts (reach stage)
       (λ u ok.
       let it = IfOk-at_ok _ (answered_so u ok) ran in
-      let reran : Reruns code t was now =
-      subst (λ (u : Nodes). Reruns code u was now) (spelled_changes it.changes only it.read spells) it.reruns in
+      let reran : Reruns code t was now = rw (spelled_changes it.changes only it.read spells) at it.reruns in
       notes_at scripts (live_of was) (live_of was) (reach stage) (λ b. b) (Resolved reran.done (access_of reran.done.acts t))
       (kept reran.done reran.run) u ok reran.notes (IfOk-at_ok _ (answered_so u ok) lives))
       (λ over.
       let it = stops (call.goes.stopped over) in
       let cut : CutsOffRerun code t s (records_of was) (medium.may_leave (disk_of now)) =
-      subst (λ (u : Nodes). CutsOffRerun code u s (records_of was) (medium.may_leave (disk_of now)))
-      (spelled_changes it.changes only it.read spells) it.reruns in
+      rw (spelled_changes it.changes only it.read spells) at it.reruns in
       notes_halt scripts (live_of was) (live_of was) (reach stage) (λ b. b) (Resolved cut.done (access_of cut.done.acts t))
       (kept cut.done cut.run) over cut.cuts_off)
       result refl

@@ -5,10 +5,10 @@ use Rattle.iot_laptop.proofs.CallsLaws.{Called, answered_so, goes_at, goes_trail
 use Rattle.iot_laptop.proofs.Common.{AreNamed, Before, CanFollow, Client, ClientFault, ClientStands, ClientState, CutsAll, Declared, Err}
 use Rattle.iot_laptop.proofs.Common.{Halt, IfOk, IfOk-at_ok, IfOk-weaker, IsErrOf, KeepsTrails, Laptop, List, Medium, NoMemory, None, Ok}
 use Rattle.iot_laptop.proofs.Common.{OnOk, Option, Over, Part, Post, Result, Returned, RunKept, Seated, Some, State, StateKept, StepFrom}
-use Rattle.iot_laptop.proofs.Common.{Stopped, Then, Transaction, UnlessNoMemory, Up, UpStands, Writes, after, ap, arith, at_each, at_one}
-use Rattle.iot_laptop.proofs.Common.{awake, bind, cut_line, disk_of, done, false, goes_on, joined, length, no_text, quiet, records_of, refl}
-use Rattle.iot_laptop.proofs.Common.{rules, same_Some, seating, state_by, state_in, state_of, subst, sym, transaction_name, true, ℕ, []}
-use Rattle.iot_laptop.proofs.{Common.◌++◌, Common.◌∙◌, Common.◌∷◌, Common.◌≡◌, NodesLaws.awake_at, NodesLaws.none_up}
+use Rattle.iot_laptop.proofs.Common.{Stopped, Then, Transaction, UnlessNoMemory, Up, Writes, after, ap, arith, at_each, at_one}
+use Rattle.iot_laptop.proofs.Common.{awake, bind, cut_line, disk_of, done, false, goes_on, joined, length, quiet, records_of, refl}
+use Rattle.iot_laptop.proofs.Common.{rules, same_Some, state_by, state_in, state_of, subst, sym, transaction_name, true, ℕ, []}
+use Rattle.iot_laptop.proofs.{Common.◌++◌, Common.◌∙◌, Common.◌∷◌, Common.◌≡◌, NodesLaws.awake_at, NodesLaws.kept_up, NodesLaws.none_up}
 use Rattle.iot_laptop.specs.Calls.{Back, CutsFirst, RunFewer}
 use Rattle.iot_machine.{proofs.StepsLaws.nothing, proofs.StepsLaws.says, specs.Calls.Says, specs.Clients.cut, specs.Events.cuts_off}
 use Rattle.iot_standing.proofs.KeptLaws.{cut_kept, cut_named, idle_is, longest}
@@ -33,9 +33,7 @@ module _ {D : Type 0} {medium : Medium D} {laptop : Laptop D} {was now : Client 
   s = state_of was
 
   kept_in : (scripts : List Declared) (m : machine.Client) → Before medium laptop scripts m → StateKept s m.node.durable
-  kept_in scripts m here =
-      let up : UpStands (seating medium laptop.place) medium no_text (record { client = was }) m.node = rw call.up at here.node in
-      up.stands.kept
+  kept_in scripts m here = rw call.up at (kept_up medium laptop.place laptop.post m.node here.node here.alive)
 
   kept_then : (number acts : ℕ) (scripts : List Declared) (m : machine.Client) → Before medium laptop scripts m
       → CanFollow s (Cut number acts)

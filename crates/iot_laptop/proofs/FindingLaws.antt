@@ -4,7 +4,7 @@ use Rattle.iot_client.specs.Calls.{Refuses, busy, idle, is_over_if_any, unended}
 use Rattle.iot_kept.specs.{Memory.classes_of, Memory.transactions, States.has_number, declared.running.Running.Running}
 use Rattle.iot_laptop.proofs.Common.{ACT_LIMIT, Bool, Client, ClientFault, Err, IfErr, IsFirstOf, Laptop, List, Live, MayFail, Medium, None}
 use Rattle.iot_laptop.proofs.Common.{Ok, Option, Result, Some, Stands, Transaction, ap, false, find, leb, length, live_in, live_numbered}
-use Rattle.iot_laptop.proofs.Common.{map, may_end_if_any, numbered, option_map, refl, state_in, transaction, true, ℕ, [], ◌==◌, ◌∷◌, ◌≡◌}
+use Rattle.iot_laptop.proofs.Common.{map, may_end_if_any, numbered, option_map, refl, state_in, sym, transaction, true, ℕ, [], ◌==◌, ◌∷◌, ◌≡◌}
 use Rattle.{iot_laptop.specs.Below.IsSome, iot_laptop.specs.Below.most_running, iot_standing.proofs.StatesLaws.found_stands}
 
 abbrev pub has_tid : ℕ → Running → Bool
@@ -33,16 +33,16 @@ found_class number (it ∷ items) (live ∷ lives) same =
 -- ---- whether one may end
 
 -- if its script has not ended, it may if it may do no more
-pub full_in : {D : Type 0} {medium : Medium D} {laptop : Laptop D} (number : ℕ) (own : Transaction) → Stands medium laptop
-    → numbered number (state_in laptop).running ≡ Some own
-    → is_over_if_any (numbered number (state_in laptop).running) (live_numbered number (state_in laptop).running (live_in laptop)) ≡ false
-    → may_end_if_any (numbered number (state_in laptop).running) (live_numbered number (state_in laptop).running (live_in laptop))
-    ≡ leb ACT_LIMIT (length own.acts)
+pub full_in : {D : Type 0} {medium : Medium D} {laptop : Laptop D} (number : ℕ) (own : Running) → Stands medium laptop
+    → Some (transaction own) ≡ numbered number (state_in laptop).running
+    → false ≡ is_over_if_any (numbered number (state_in laptop).running) (live_numbered number (state_in laptop).running (live_in laptop))
+    → leb ACT_LIMIT (length own.acts)
+    ≡ may_end_if_any (numbered number (state_in laptop).running) (live_numbered number (state_in laptop).running (live_in laptop))
 full_in {laptop = laptop} number own stands is over =
     let m = stands.machine in
-    let runs = found_stands (state_in laptop) (live_in laptop) m.first m.node.durable stands.stands.state number own is in
-    rw (is, runs.lives, runs.stands.code)
-    (ap (λ (b : Bool). b || leb ACT_LIMIT (length own.acts)) (rw (is, runs.lives, runs.stands.code) at over))
+    let runs = found_stands (state_in laptop) (live_in laptop) m.first m.node.durable stands.stands.state number (transaction own) (sym is) in
+    rw (← is, runs.lives, runs.stands.code)
+    (ap (λ (b : Bool). b || leb ACT_LIMIT (length own.acts)) (rw (← is, runs.lives, runs.stands.code) at over))
 
 -- ---- calls that nothing refuses
 

@@ -35,16 +35,13 @@ module _ {D : Type 0} (medium : Medium D) (place : ℕ) (post : Post (Seated D) 
   pub known_up : begun_of (live_by post) ≡ live_with first node.durable.running → live_by post ≡ live_with first node.durable.running
   known_up begun =
       let it = keeper_of medium place post node here up in
-      rw it.1
-      (known_again it.0.client it.2.stands.tied first node.durable.running it.2.stands.kept.running (rw it.1 at begun))
+      rw it.1 (known_again it.0.client it.2.stands.tied first node.durable.running it.2.stands.kept.running (rw it.1 at begun))
 
   -- nothing is known if nothing runs
   pub none_up : (state_by post).running ≡ [] → live_by post ≡ live_with first node.durable.running
   none_up none =
       let it = keeper_of medium place post node here up in
-      let live : live_by post ≡ [] =
-      rw it.1
-      (none_known it.0.client it.2.stands.tied (sym (ap (λ (p : Post (Seated D) D). (state_by p).running) it.1) ∙ none)) in
+      let live : live_by post ≡ [] = rw it.1 (none_known it.0.client it.2.stands.tied (rw it.1 at none)) in
       live ∙ idle_runs first (state_by post) node.durable none (kept_up medium place post node here up)
 
 module _ {D : Type 0} (medium : Medium D) where

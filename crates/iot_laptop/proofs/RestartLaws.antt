@@ -5,8 +5,8 @@ use Rattle.{iot_disk.specs.Disk.Storing, iot_disk.specs.declared.disk.Pick.Pick,
 use Rattle.{iot_kept.specs.Rules.header, iot_kept.specs.States.opening, iot_laptop.proofs.CallsLaws.keeps_post}
 use Rattle.iot_laptop.proofs.Common.{AreNamed, Asks, At, Before, Besides, Bool, ClientStands, ClientState}
 use Rattle.iot_laptop.proofs.Common.{CutsAll, Declared, Down, FallenStands, IsClientImage, IsTree, KeepsDisk, Laptop, LaptopStands}
-use Rattle.iot_laptop.proofs.Common.{List, Medium, Node, NodeStands, None, OnOk, Option, Part, Possibly, Post, PostStands, Reclassed}
-use Rattle.iot_laptop.proofs.Common.{Result, Returned, RunKept, Seated, Stands, StandsAnyhow, StepFrom, Then, all_second, ap, append-nil}
+use Rattle.iot_laptop.proofs.Common.{List, Medium, Node, None, OnOk, Option, Part, Post, PostStands, Reclassed}
+use Rattle.iot_laptop.proofs.Common.{Result, Returned, Seated, Stands, StandsAnyhow, StepFrom, Then, all_second, ap, append-nil}
 use Rattle.iot_laptop.proofs.Common.{arith, asks, at_each, at_one, awake, begun_of, bind, connected, counts_on, disk_by, does, fallen}
 use Rattle.iot_laptop.proofs.Common.{false, goes_on, inl, inr, is_alive, is_on, joined, live_in, live_with, lives_then, no_text, on_is}
 use Rattle.iot_laptop.proofs.Common.{quiet, refl, rules, same_Some, seating, state_by, state_in, subst, sym, true, ℕ, [], ◌++◌, ◌∙◌, ◌≡◌}
@@ -24,7 +24,6 @@ use Rattle.iot_machine.specs.Texts.{disconnect_line, line, stopped_line}
 use Rattle.iot_node.specs.{Posts.CameIf, Posts.IsStanding, Posts.Ready, Posts.words_of, declared.comeback.Comeback.TheVariants.Restart}
 use Rattle.iot_slots.specs.Decoding.{Decoded, NotStarted, decoded, state_of as encoded_in}
 use Rattle.iot_tree.{proofs.RowLaws.root_map, proofs.RowLaws.root_rows, specs.declared.nodes.Node.TheVariants.FarDir}
-use Rattle.iot_machine.specs.Clients as clients
 use Rattle.iot_machine.specs.Machine as machine
 use Rattle.iot_link.specs.Links as links
 
@@ -193,9 +192,7 @@ module _ {D : Type 0} (medium : Medium D) (laptop : Laptop D) (new : IsUnopened 
     started_idle up =
         let s = it.step opens_standing.node opens_standing.stands in
         let kept = kept_up medium laptop.place post s.1 s.4 (on_is (seating medium laptop.place) medium no_text post s.1 s.4 ∙ up) in
-        none_runs (state_by post).running
-        (subst (λ (ms : List clients.Running). RunKept (state_by post).running ms)
-        (ap (λ (state : ClientState). state.running) (opens_states laptop.name opens_standing.node s.1 s.0 on s.3).durable) kept.running)
+        none_runs (state_by post).running (rw (opens_states laptop.name opens_standing.node s.1 s.0 on s.3).durable at kept.running)
 
     pub opens : (scripts : List Declared)
         → Refines (ClientStands medium scripts) OpensClient laptop (record laptop { post = post }) x y on
@@ -237,12 +234,9 @@ module _ {D : Type 0} (medium : Medium D) (old : Laptop D) where
     mid = record old { post = post }
 
     -- its node came back over this post, or it did not
-    record Turned (scripts : List Declared) (on : Bool) (laptop : Laptop D) (m : machine.Client) : Type 0 where
-      name : laptop.name ≡ m.name
-      link : laptop.link ≡ m.link
-      alive : m.node.alive ≡ on
-      node : NodeStands medium laptop m
-      named : Possibly (AreNamed scripts) m.node
+    abbrev Turned : (scripts : List Declared) (on : Bool) → Laptop D → machine.Client → Type 0
+    Turned scripts true laptop m = Before medium laptop scripts m
+    Turned scripts false laptop m = FallenStands medium scripts laptop m
 
     module _ {on : Bool} (back : CameBack medium old post x y on) (scripts : List Declared) where
       turns : (m : machine.Client) → FallenStands medium scripts old m
@@ -252,7 +246,9 @@ module _ {D : Type 0} (medium : Medium D) (old : Laptop D) where
           (λ m down. (refl, back.steps.step m.node down.node))
           (λ m down n text step there.
           let alive : n.alive ≡ on = on_is (seating medium old.place) medium no_text post n there ∙ back.is in
-          let named = (comes_within old.name no_text m.node n text on step).each (AreNamed scripts) down.named in search rules))
+          let named = (comes_within old.name no_text m.node n text on step).each (AreNamed scripts) down.named in
+          (elim on as (λ on. n.alive ≡ on → Turned scripts on mid (record m { node = n }))
+          [ true ↦ λ alive. let named = named.is in search rules | false ↦ λ alive. search rules ]) alive))
           down
 
       -- what it does then makes the whole of its restart
@@ -270,7 +266,7 @@ module _ {D : Type 0} (medium : Medium D) (old : Laptop D) where
 
     module _ (back : CameBack medium old post x y false) (scripts : List Declared) where
       pub stops_again : Refines (ClientStands medium scripts) RestartsClient old mid x y tt
-      stops_again = restarts back scripts mid y (λ k there. quiet k (refl, refl) (fallen (search rules)))
+      stops_again = restarts back scripts mid y (λ k there. quiet k (refl, refl) (fallen there))
 
       pub came_again : (m : machine.Client) → ClientStands medium scripts old m → Came medium old x y m
       came_again m here =
@@ -281,20 +277,16 @@ module _ {D : Type 0} (medium : Medium D) (old : Laptop D) where
     -- ---- it is back
 
     module _ (back : CameBack medium old post x y true) where
-      returned : (scripts : List Declared) (k : machine.Client) → Turned scripts true mid k → Before medium mid scripts k
-      returned scripts k it =
-          record { name = it.name; link = it.link; alive = it.alive; node = it.node; named = it.named.is }
-
       pub is_back : StandsAnyhow medium old → Returned medium mid
       is_back stands =
           let down = fallen_stands medium stands.scripts old stands.machine back.off stands.stands in
-          record { scripts = _; machine = _; stands = returned stands.scripts _ (turns back stands.scripts stands.machine down).stands }
+          record { scripts = _; machine = _; stands = (turns back stands.scripts stands.machine down).stands }
 
       module _ (new : Laptop D) (z : List ℕ) (cut : CutsAll medium mid new y z) (scripts : List Declared) where
         all_cut : (k : machine.Client) → Turned scripts true mid k → StepFrom (ClientStands medium scripts) CutsOff k new y z tt
         all_cut k there =
             joined (quiet {P = Turned scripts true} {a = k.node.durable.running} k (refl, refl, refl) there)
-            (at_one (cut scripts k.node.durable.running) (record { here = returned scripts k there; runs = refl }))
+            (at_one (cut scripts k.node.durable.running) (record { here = there; runs = refl }))
 
         pub comes_back : Refines (ClientStands medium scripts) RestartsClient old new x z tt
         comes_back = restarts back scripts new z all_cut

@@ -4,19 +4,19 @@ use Rattle.iot_changes.specs.declared.changes.Change.TheVariants.{Acted, Again, 
 use Rattle.iot_client.specs.Calls.{CanAct, CutsOffEnd, CutsOffNext, Differs, EndIs, IsSoOfRun}
 use Rattle.iot_client.specs.Calls.{StepIs, joining, lives_after, next_acts, other_lives, starting, with_live, yielded, yielded_to}
 use Rattle.iot_client.specs.declared.{ended.Ended.Ended as EndedIs, steps.Step.Step}
-use Rattle.iot_kept.{proofs.SyncedLaws.synced_numbered, specs.Changes.IsSomeOf, specs.Changes.RunIs, specs.States.view}
+use Rattle.iot_kept.{proofs.SyncedLaws.synced_numbered, specs.States.view}
 use Rattle.iot_laptop.proofs.CallsLaws.{Called, Known, answered_so, from_known, goes_trails, known_was, notes_at, notes_halt}
 use Rattle.iot_laptop.proofs.Common.{Asks, Bool, CanFollow, ChangesClasses, Client, ClientFault, ClientStands, ClientState, Code, CutsOff}
 use Rattle.iot_laptop.proofs.Common.{Declared, EndsAlone, Err, Halt, IfOk, IfOk-at_ok, IfOk-weaker, IsErrOf, IsFirstOf, IsScript, Item}
 use Rattle.iot_laptop.proofs.Common.{KeepsTrails, KeptLive, Laptop, LaptopStands, List, Live, Medium, NoMemory, None, Notes, NotesAlone}
-use Rattle.iot_laptop.proofs.Common.{Ok, OnOk, Option, Over, Reclassed, Result, Some, State, StateKept, StepFrom, StepsTo, Stopped, Then}
+use Rattle.iot_laptop.proofs.Common.{Ok, OnOk, Option, Over, Reclassed, Result, Some, State, StateKept, StepsTo, Stopped}
 use Rattle.iot_laptop.proofs.Common.{Transaction, UnlessNoMemory, acts_output, after, answers, ap, append-nil, arith, asks, at_each, at_one}
 use Rattle.iot_laptop.proofs.Common.{bind, disk_of, does, done, false, joined, live_in, live_numbered, live_of, may_end_if_any, numbered}
 use Rattle.iot_laptop.proofs.Common.{quiet, records_of, refl, rules, same_Some, second_class, stamps_by, stamps_in, stamps_of, stands_so}
 use Rattle.iot_laptop.proofs.Common.{state_by, state_in, state_of, subst, sym, transaction_name, true, ℕ, [], ◌++◌, ◌==◌, ◌∙◌, ◌∷◌, ◌≡◌}
 use Rattle.iot_laptop.{proofs.NodesLaws.reclasses, specs.Alone.CertifiesAlone}
-use Rattle.iot_laptop.specs.Alone.{ComparesAlone, StartsAlone, YieldsAlone, change_by, notes_found, set_class, yielding, yields_by}
-use Rattle.iot_laptop.specs.Below.{Compared, Same, Try, has_any, option_map, waits_of}
+use Rattle.iot_laptop.specs.Alone.{ComparesAlone, StartsAlone, YieldsAlone, change_by, set_class, yielding, yields_by}
+use Rattle.iot_laptop.specs.Below.{Compared, Same, has_any, option_map, waits_of}
 use Rattle.iot_laptop.specs.Calls.{Begins, IsDoneIn, IsGoneIfAny, NextIs, TakesStep, acts_by, certified_if, compared_if, waits_after}
 use Rattle.iot_machine.proofs.StepsLaws.{gets}
 use Rattle.iot_machine.specs.{Calls.Answers, Calls.unless_over, Clients.act_once, Clients.begin, Clients.next_step, Machine.classed}
@@ -24,7 +24,7 @@ use Rattle.{iot_node.specs.Steps.EndsBy, iot_standing.proofs.KeptLaws.acted_live
 use Rattle.iot_standing.proofs.KeptLaws.{begun_live, ended_live, ended_waits, parts as reads_part, same_reads, yielded_live, yields}
 use Rattle.iot_standing.proofs.RunsLaws.{SoOf, kept_as, kept_both, number_found, own_number, so_of}
 use Rattle.iot_standing.proofs.StatesLaws.{acts_is, may_end_is, next_is, one_is}
-use Rattle.iot_standing.specs.{Kept.RunningKept, States.RunningStands, States.next_as}
+use Rattle.iot_standing.specs.{Kept.RunningKept, States.RunningStands}
 use Rattle.iot_tree.specs.declared.{acts.Act.Act, labels.OnConflict.OnConflict as OnConflictNamed, questions.Question.Question}
 use Rattle.iot_machine.specs.Clients as clients
 use Rattle.iot_machine.specs.Machine as machine
@@ -126,9 +126,6 @@ pub is_done : {D : Type 0} (medium : Medium D) (number : ℕ) (laptop : Laptop D
 is_done medium number laptop may scripts m it here runs =
     (may_end_is (state_in laptop) (live_in laptop) m.first m.node.durable here.state number it runs).0 may (machine.is_first it.number m)
 
-abbrev certify_by : ℕ → clients.Running → Try machine.Client Compared
-certify_by n it = Then (YieldsAlone n) (λ _. Then (ComparesAlone it) (notes_found n))
-
 -- ---- a call on one that runs, which is first to yield
 
 module _ {D : Type 0} (was : Client D) (number : ℕ) where
@@ -181,14 +178,12 @@ module _ {D : Type 0} (was : Client D) (number : ℕ) where
 
     -- the step that was done, of what ran
     stepped : (step : Step) → result ≡ Ok step → OfRun (λ it first code. StepIs was it first code step now)
-    stepped step ok = so_of (λ it first code. StepIs was it first code step now) _ _ (IfOk-at_ok _ (answered_so call step ok) does)
+    stepped step ok = so_of _ _ _ (IfOk-at_ok _ (answered_so call step ok) does)
 
     -- the act in which it stopped
     halted : result ≡ Err Over
         → OfRun (λ it first code. CutsOffNext it first code s (records_of was) (medium.may_leave (disk_of now)))
-    halted same =
-        so_of (λ it first code. CutsOffNext it first code s (records_of was) (medium.may_leave (disk_of now))) _ _
-        (stops (call.goes.stopped same))
+    halted same = so_of _ _ _ (stops (call.goes.stopped same))
 
     -- nothing but its class is another
     stays : (step : Step) → result ≡ Ok step → ChangesClasses was now → Reclassed medium (yielding number) laptop new × (y ≡ x)
@@ -234,21 +229,18 @@ module _ {D : Type 0} (was : Client D) (number : ℕ) where
     pub next_by : (r : Result Step Halt) → result ≡ r → NextIs medium number laptop r
     next_by (Ok step) same = λ scripts m it here runs.
         let so = stepped step same in
-        subst (λ (class : Bool). next_step class it ≡ next_as step) (class_then number m it)
-        (next_is so.own so.besides (first_then number m) it
-        (found_then call scripts m here it runs so.own so.besides so.is so.lives) so.code so.has was now step so.so)
+        rw (← class_then number m it)
+        (next_is so.own so.besides (first_then number m) it (found_then call scripts m here it runs so.own so.besides so.is so.lives) so.code so.has was now step so.so)
     next_by (Err NoMemory) same = tt
     next_by (Err Over) same = λ scripts m it here runs.
         let so = halted same in
-        subst (λ (class : Bool). next_step class it ≡ clients.Acts) (class_then number m it)
-        (acts_is so.own so.besides (first_then number m) it
-        (found_then call scripts m here it runs so.own so.besides so.is so.lives) so.code so.has so.so.can)
+        rw (← class_then number m it)
+        (acts_is so.own so.besides (first_then number m) it (found_then call scripts m here it runs so.own so.besides so.is so.lives) so.code so.has so.so.can)
 
     -- a server's stamps are kept
     pub step_trails : UnlessNoMemory (done result) (KeepsTrails laptop new)
     step_trails = goes_trails call (IfOk-weaker answer _ _ (λ step is.
-        let so : OfRun (λ it first code. StepIs was it first code step now) =
-        so_of (λ it first code. StepIs was it first code step now) _ _ is in
+        let so : OfRun (λ it first code. StepIs was it first code step now) = so_of _ _ _ is in
         client.step_trails medium was now so.own so.besides.first so.code step call.was_tied so.so) does) result refl
 
   -- ---- it ends
@@ -261,7 +253,7 @@ module _ {D : Type 0} (was : Client D) (number : ℕ) where
       (stops : IsErrOf answer Stopped → IsSoOfRun (λ it first code. CutsOffEnd it code s (records_of was)
       (medium.may_leave (disk_of now))) number s (live_of was)) where
     did : (ended : EndedIs) → result ≡ Ok ended → OfRun (λ it first code. EndIs was it first code ended now)
-    did ended ok = so_of (λ it first code. EndIs was it first code ended now) _ _ (IfOk-at_ok _ (answered_so call ended ok) does)
+    did ended ok = so_of _ _ _ (IfOk-at_ok _ (answered_so call ended ok) does)
 
     module _ (scripts : List Declared) (own : Transaction) (found : numbered number s.running ≡ Some own) where
       -- the one that is certified is the one that the machine finds; it is compared with what is kept, and what was found is noted
@@ -278,8 +270,7 @@ module _ {D : Type 0} (was : Client D) (number : ℕ) where
           let durable : (yielding number m).node.durable ≡ m.node.durable =
           ap (λ (k : machine.Client). k.node.durable) (yielding_is number m) in
           joined (quiet {P = LaptopStands medium scripts} {a = Some k.it} m (refl, sym k.is, refl) here)
-          (subst (λ (n : ℕ). StepFrom after_it (certify_by n k.it) m end x z (option_map (λ _. what) noted))
-          (sym (number_found number m.node.durable.running k.it k.is))
+          (rw (number_found number m.node.durable.running k.it k.is)
           (joined (quiet {P = Known medium scripts s known} {a = tt} (yielding number m) (refl, refl) there)
           (joined (quiet {P = Known medium scripts s known} {a = what} (yielding number m)
           (makes m.node.durable kept k.it k.kept (yielding number m) durable) there)
@@ -294,9 +285,7 @@ module _ {D : Type 0} (was : Client D) (number : ℕ) where
       same_there : CanFollow s (Ended own.number) → (m : ClientState) → StateKept s m → (it : clients.Running) → RunningKept own it
           → (client : machine.Client) → client.node.durable ≡ m → ComparesAlone it client [] Same client
       same_there follows m kept it run client is =
-          let holds : ActsHold (view s) own.acts =
-          subst (IsSomeOf (λ it. ActsHold (view s) it.acts)) found
-          (subst (λ (n : ℕ). RunIs n (λ it. ActsHold (view s) it.acts) s.running) (own_number number s.running own found) follows) in
+          let holds : ActsHold (view s) own.acts = rw (own_number number s.running own found, found) at follows in
           alones.same (rw is (same_reads s m kept own it run holds)) refl refl refl
 
       -- .. and what parts there
@@ -325,8 +314,7 @@ module _ {D : Type 0} (was : Client D) (number : ℕ) where
     ends_by (Err Over) over scripts = record { is = by so.so }
       where
         so : OfRun (λ it first code. CutsOffEnd it code s (records_of was) (medium.may_leave (disk_of now)))
-        so = so_of (λ it first code. CutsOffEnd it code s (records_of was) (medium.may_leave (disk_of now))) _ _
-            (stops (call.goes.stopped over))
+        so = so_of _ _ _ (stops (call.goes.stopped over))
 
         by : CutsOffEnd so.own so.code s (records_of was) (medium.may_leave (disk_of now))
             → StepsTo (LaptopStands medium scripts) (ClientStands medium scripts) (CertifiesAlone number) laptop new x y None
@@ -370,8 +358,7 @@ module _ {D : Type 0} (was : Client D) (number : ℕ) where
     pub end_trails : (r : Result EndedIs Halt) → result ≡ r
         → UnlessNoMemory (done (certified_if laptop.name output r)) (KeepsTrails laptop new)
     end_trails r same = rw (certified_done r) (goes_trails call (IfOk-weaker answer _ _ (λ ended is.
-        let so : OfRun (λ it first code. EndIs was it first code ended now) =
-        so_of (λ it first code. EndIs was it first code ended now) _ _ is in
+        let so : OfRun (λ it first code. EndIs was it first code ended now) = so_of _ _ _ is in
         client.end_trails medium was now so.own so.besides.first so.code ended call.was_tied so.so) does) r same)
       where
         certified_done : (r : Result EndedIs Halt) → done (certified_if laptop.name output r) ≡ done r

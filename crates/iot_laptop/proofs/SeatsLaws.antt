@@ -1,6 +1,6 @@
 -- What a client is as the keeper of a node: how it starts, and what its disk holds.
 use Rattle.std.{proofs.Common.is_some, proofs.lemmas.Bool.cond-true, proofs.lemmas.Bool.cond_both, specs.List.list_all}
-use Rattle.iot_client.specs.Ties.{AreFound, AreRuns, classes_in}
+use Rattle.iot_client.specs.Ties.{AreFound, classes_in}
 use Rattle.{iot_disk.specs.declared.faults.StartFault.StartFault, iot_kept.proofs.SyncedLaws.synced_stands}
 use Rattle.iot_kept.specs.{Rules.rules as kept_rules, Standing.EachStands, Standing.StandFor, Standing.records_in}
 use Rattle.iot_laptop.proofs.Common.{Besides, Bool, Client, ClientState, IsClientImage, IsTied, List, Live, Medium, None, Post, RunKept}
@@ -38,9 +38,7 @@ none_runs (it ∷ running) kept = absurd kept
 
 -- so nothing is known of what runs
 pub none_known : {D : Type 0} {medium : Medium D} (it : Client D) → IsTied medium it → (state_of it).running ≡ [] → live_of it ≡ []
-none_known it tied none =
-    none_live (classes_in it) it.interpreters.items
-    (subst (λ (running : List Transaction). AreRuns running it.interpreters.items) none tied.runs)
+none_known it tied none = none_live (classes_in it) it.interpreters.items (rw none at tied.runs)
 
 -- what was begun tells all, of a client whose machine's client has these running
 pub known_again : {D : Type 0} {medium : Medium D} (it : Client D) → IsTied medium it → (first : List ℕ) (ms : List clients.Running)
@@ -77,8 +75,7 @@ fresh_lent post on same = none_lent _
 stand_images : (images : List ℕ → Type 0) (records count : ℕ) (state : State) (m : ClientState) → EachStands images records state
     → records ≡ count → StateKept state m → EachIs images (λ image. IsClientImage image count m)
 stand_images images records count state m stands same kept = record {
-  each = λ image left.
-      record { state = state; stands = subst (λ (n : ℕ). StandWith image n state) same (stands.each image left); kept = kept };
+  each = λ image left. record { state = state; stands = rw same at (stands.each image left); kept = kept };
 }
 
 module _ {D : Type 0} (medium : Medium D) where
