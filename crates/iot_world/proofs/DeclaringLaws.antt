@@ -1,4 +1,5 @@
 -- A new world is that of a machine that has opened, and what is declared in a world is declared in the machine.
+use Rattle.std.proofs.lemmas.Slice.Zip.{all_zipped_more}
 use Rattle.std.proofs.{Common.bytes_eq, Math.Seq.get_or-append_seam, Math.Seq.set-append_seam, Math.Seq.take-append_seam}
 use Rattle.std.proofs.lemmas.{List.Folds.find-append, Slice.Eq.bytes_eq-Decides}
 use Rattle.{iot_client.specs.Messages.nothing_held, iot_event.specs.Meanings.is_declared}
@@ -21,7 +22,7 @@ use Rattle.iot_world.proofs.Common.{length, length-append, length-map, map, map-
 use Rattle.iot_world.proofs.Common.{placed, quiet, refl, rules, script_names, server_name, slice_index_or, stamps_in, subst, suc, sym, take}
 use Rattle.iot_world.proofs.Common.{true, vec_capacity, vec_len, with_clients, with_ends, with_server, ℕ, [], ◌++◌, ◌+◌, ◌∙◌, ◌∷◌, ◌≡◌, ◌≤◌}
 use Rattle.iot_world.proofs.DisksLaws.{arms_with, clients_same, first_kept, pushed_with, server_same, unarmed_same}
-use Rattle.iot_world.proofs.{ListLaws.all_split, ListLaws.each_map, ListLaws.each_place_push, ListLaws.each_push, PlacesLaws.ServerFollows}
+use Rattle.iot_world.proofs.{ListLaws.all_split, ListLaws.each_map, ListLaws.each_place_push, PlacesLaws.ServerFollows}
 use Rattle.iot_world.proofs.PlacesLaws.{ends_length, has_places, kept_server, placed_beside, places_list, server_list, server_placed}
 use Rattle.iot_world.{proofs.WorldsLaws.Any, proofs.WorldsLaws.at_part, proofs.WorldsLaws.opens_keeps, specs.Disks.AreFresh}
 use Rattle.iot_world.specs.{Disks.AreUnarmed, Prelude.client_line, World.DeclaresClient, World.GivesBack, World.SaysStarted, World.Starts}
@@ -262,8 +263,8 @@ module _ {D : Type 0} (medium : Medium D) (name : List ℕ) (old : World D) (cli
           let follows =
           follows_kept (stamps_in was) (stamps_in next) m.server.durable trails (rw empty (follows_nothing m.server.durable)) in
           let clients_ : Each (StandsIn medium m.scripts m.server.durable) clients.items (m.clients ++ k ∷ []) =
-          rw push (each_push (StandsIn medium m.scripts m.server.durable) old.clients.items m.clients next k
-          (record { client = started; follows = follows }) here.clients_) in
+          rw push (all_zipped_more (StandsIn medium m.scripts m.server.durable) old.clients.items m.clients next k here.clients_
+          (record { client = started; follows = follows })) in
           let placed = subst ArePlaced (sym push)
           (each_place_push (λ n (l : Laptop D). l.place ≡ n) old.clients.items next here.placed (stays ∙ knows)) in
           let empty = (subst (AllByRecursion (IsEmpty medium)) spare here.spare).1 in

@@ -26,12 +26,6 @@ module _ {W M : Type 0} (stands : W → M → Type 0) where
   each_set (w' ∷ ws) (m' ∷ ms) (suc c) w m it all = (all.0, each_set ws ms c w m it all.1)
   each_set ws ms c w m it all = absurd all
 
-  pub each_push : (ws : List W) (ms : List M) (w : W) (m : M) → stands w m → Each stands ws ms
-      → Each stands (ws ++ w ∷ []) (ms ++ m ∷ [])
-  each_push [] [] w m it all = (it, tt)
-  each_push (w' ∷ ws) (m' ∷ ms) w m it all = (all.0, each_push ws ms w m it all.1)
-  each_push ws ms w m it all = absurd all
-
   pub each_length : (ws : List W) (ms : List M) → Each stands ws ms → length ws ≡ length ms
   each_length ws ms all = sym (AllZip-long stands ws ms all)
 
