@@ -11,10 +11,10 @@ use Rattle.iot_kept.proofs.{BringingLaws.base_spelled, BringingLaws.brought_spel
 use Rattle.iot_kept.specs.Bringing.{base_for, bringing, brought_for}
 use Rattle.{iot_kept.specs.declared.bringing.Purpose.Purpose, iot_laptop.proofs.Common.AreNamed}
 use Rattle.iot_laptop.proofs.Common.{Before, Besides, Between, Bool, Call, CanFollow, Client, ClientFault, ClientStands, ClientState}
-use Rattle.iot_laptop.proofs.Common.{Code, CutsOff, Declared, EndsAlone, Err, Halt, IfErr, IfOk, IfOk-at_ok, IfOk-weaker, IsErrOf, IsLent}
-use Rattle.iot_laptop.proofs.Common.{IsScript, IsTied, IsTree, Item, KeepsDisk, KeepsTrails, KeptLive, Laptop, LaptopStands, List, Live}
-use Rattle.iot_laptop.proofs.Common.{MayFail, Medium, NoMemory, Node, None, Notes, NotesAlone, Ok, OnOk, Option, Over, Post, Result, Seated}
-use Rattle.iot_laptop.proofs.Common.{Some, State, StateKept, StateStands, StepsFrom, StepsTo, Stopped, UnlessNoMemory, Up}
+use Rattle.iot_laptop.proofs.Common.{Code, CutsOff, Declared, EndsAlone, Err, Halt, IfErr, IfOk, IfOk-at_ok, IfOk-weaker, IsErrOf}
+use Rattle.iot_laptop.proofs.Common.{IsLent, IsScript, IsTied, IsTree, Item, KeepsDisk, KeepsTrails, KeptLive, Laptop, LaptopStands}
+use Rattle.iot_laptop.proofs.Common.{List, Live, MayFail, Medium, NoMemory, Node, None, Notes, NotesAlone, Ok, OnOk, Option, Over, Post}
+use Rattle.iot_laptop.proofs.Common.{Result, Seated, Some, State, StateKept, StateStands, StepsFrom, StepsTo, Stopped, UnlessNoMemory, Up}
 use Rattle.iot_laptop.proofs.Common.{UpStands, Writes, acts_in, after, answers, ap, besides, bind, disk_by, disk_of, done, false, head_of}
 use Rattle.iot_laptop.proofs.Common.{if◌then◌else◌, inl, inr, is_alive, is_on, live_by, live_in, live_of, lives_then, no_text, none_besides}
 use Rattle.iot_laptop.proofs.Common.{place_of, possibly_sure, reads_of, records_of, refl, rules, same_Some, same_counts, seating}

@@ -5,10 +5,10 @@ use Rattle.iot_laptop.proofs.CallsLaws.{Called, answered_so, goes_at, goes_trail
 use Rattle.iot_laptop.proofs.Common.{AreNamed, Before, CanFollow, Client, ClientFault, ClientStands, ClientState, CutsAll, Declared, Err}
 use Rattle.iot_laptop.proofs.Common.{Halt, IfOk, IfOk-at_ok, IfOk-weaker, IsErrOf, KeepsTrails, Laptop, List, Medium, NoMemory, None, Ok}
 use Rattle.iot_laptop.proofs.Common.{OnOk, Option, Over, Part, Post, Result, Returned, RunKept, Seated, Some, State, StateKept, StepFrom}
-use Rattle.iot_laptop.proofs.Common.{Stopped, Then, Transaction, UnlessNoMemory, Up, Writes, after, ap, arith, at_each, at_one}
-use Rattle.iot_laptop.proofs.Common.{awake, bind, cut_line, disk_of, done, false, goes_on, joined, length, quiet, records_of, refl}
-use Rattle.iot_laptop.proofs.Common.{rules, same_Some, state_by, state_in, state_of, subst, sym, transaction_name, true, ℕ, []}
-use Rattle.iot_laptop.proofs.{Common.◌++◌, Common.◌∙◌, Common.◌∷◌, Common.◌≡◌, NodesLaws.awake_at, NodesLaws.kept_up, NodesLaws.none_up}
+use Rattle.iot_laptop.proofs.Common.{Stopped, Then, Transaction, UnlessNoMemory, Up, Writes, after, ap, arith, at_each, at_one, awake, bind}
+use Rattle.iot_laptop.proofs.Common.{cut_line, disk_of, done, false, goes_on, joined, length, quiet, records_of, refl, rules, same_Some}
+use Rattle.iot_laptop.proofs.Common.{state_by, state_in, state_of, subst, sym, transaction_name, true, ℕ, [], ◌++◌, ◌∙◌, ◌∷◌, ◌≡◌}
+use Rattle.iot_laptop.proofs.NodesLaws.{awake_at, kept_up, none_up}
 use Rattle.iot_laptop.specs.Calls.{Back, CutsFirst, RunFewer}
 use Rattle.iot_machine.{proofs.StepsLaws.nothing, proofs.StepsLaws.says, specs.Calls.Says, specs.Clients.cut, specs.Events.cuts_off}
 use Rattle.iot_standing.proofs.KeptLaws.{cut_kept, cut_named, idle_is, longest}

@@ -1,11 +1,13 @@
 -- What a laptop finds among the transactions that run; and that a call that nothing refuses fails as a disk or the memory does.
-use Rattle.std.proofs.{Common.cond, Common.◌<◌, Common.◌||◌, lemmas.Bool.lt-ltb}
+use Rattle.std.proofs.Common.{cond, option_map, ◌<◌, ◌||◌}
+use Rattle.std.{proofs.lemmas.Bool.lt-ltb, specs.Prelude.leb}
 use Rattle.iot_client.specs.Calls.{Refuses, busy, idle, is_over_if_any, unended}
-use Rattle.iot_kept.specs.{Memory.classes_of, Memory.transactions, States.has_number, declared.running.Running.Running}
-use Rattle.iot_laptop.proofs.Common.{ACT_LIMIT, Bool, Client, ClientFault, Err, IfErr, IsFirstOf, Laptop, List, Live, MayFail, Medium, None}
-use Rattle.iot_laptop.proofs.Common.{Ok, Option, Result, Some, Stands, Transaction, ap, false, find, leb, length, live_in, live_numbered}
-use Rattle.iot_laptop.proofs.Common.{map, may_end_if_any, numbered, option_map, refl, state_in, sym, transaction, true, ℕ, [], ◌==◌, ◌∷◌, ◌≡◌}
-use Rattle.{iot_laptop.specs.Below.IsSome, iot_laptop.specs.Below.most_running, iot_standing.proofs.StatesLaws.found_stands}
+use Rattle.iot_kept.specs.{Memory.classes_of, Memory.transaction, Memory.transactions, States.has_number, declared.running.Running.Running}
+use Rattle.iot_laptop.proofs.Common.{Bool, Client, ClientFault, Err, IfErr, IsFirstOf, Laptop, List, Live}
+use Rattle.iot_laptop.proofs.Common.{MayFail, Medium, None, Ok, Option, Result, Some, Stands, Transaction, ap, false, find, length, live_in}
+use Rattle.iot_laptop.proofs.Common.{live_numbered, map, may_end_if_any, numbered, refl, state_in, sym, true, ℕ, [], ◌==◌, ◌∷◌, ◌≡◌}
+use Rattle.iot_laptop.specs.Below.{IsSome, most_running}
+use Rattle.{iot_standing.proofs.StatesLaws.found_stands, iot_tree.specs.declared.limits.TheConstants.ACT_LIMIT}
 
 abbrev pub has_tid : ℕ → Running → Bool
 has_tid number it = it.tid == number
@@ -40,7 +42,8 @@ pub full_in : {D : Type 0} {medium : Medium D} {laptop : Laptop D} (number : ℕ
     ≡ may_end_if_any (numbered number (state_in laptop).running) (live_numbered number (state_in laptop).running (live_in laptop))
 full_in {laptop = laptop} number own stands is over =
     let m = stands.machine in
-    let runs = found_stands (state_in laptop) (live_in laptop) m.first m.node.durable stands.stands.state number (transaction own) (sym is) in
+    let runs =
+    found_stands (state_in laptop) (live_in laptop) m.first m.node.durable stands.stands.state number (transaction own) (sym is) in
     rw (← is, runs.lives, runs.stands.code)
     (ap (λ (b : Bool). b || leb ACT_LIMIT (length own.acts)) (rw (← is, runs.lives, runs.stands.code) at over))
 

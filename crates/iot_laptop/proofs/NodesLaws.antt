@@ -1,11 +1,12 @@
 -- What is known of a client by its node, also after a call that changes nothing but classes.
-use Rattle.iot_laptop.proofs.Common.{AreNamed, At, Between, Bool, Call, ChangesClasses, Client, ClientStands, ClientState, Declared, Down}
-use Rattle.iot_laptop.proofs.Common.{FallenStands, IsLent, IsTied, Laptop, LaptopStands, List, Medium, Node, NodeStands, Possibly, Post}
-use Rattle.iot_laptop.proofs.Common.{PostStands, Reclassed, Seated, Some, Stands, StandsAnyhow, State, StateKept, StateStands, StepsFrom}
-use Rattle.iot_laptop.proofs.Common.{StepsTo, Up, UpStands, all_second, ap, awake, begun_of, counts_on, disk_by, fallen, false, is_alive}
-use Rattle.iot_laptop.proofs.Common.{is_on, live_by, live_in, live_of, live_with, lives_then, map, no_text, on_is, possibly_sure, refl}
-use Rattle.iot_laptop.proofs.Common.{rules, seating, second_class, stamps_by, state_by, state_in, state_of, subst, sym, true, ℕ, [], ◌∙◌}
-use Rattle.iot_laptop.proofs.{Common.◌≡◌, SeatsLaws.known_again, SeatsLaws.none_known}
+use Rattle.iot_laptop.proofs.Common.{AreNamed, At, Between, Bool, Call, ChangesClasses, Client, ClientStands, ClientState, Declared}
+use Rattle.iot_laptop.proofs.Common.{Down, FallenStands, IsLent, IsTied, Laptop, LaptopStands, List, Medium, Node, Post, PostStands}
+use Rattle.iot_laptop.proofs.Common.{Reclassed, Seated, Some, Stands, StandsAnyhow, State, StateKept, StateStands, StepsFrom, StepsTo}
+use Rattle.iot_laptop.proofs.Common.{Up, UpStands, all_second, ap, awake, begun_of, counts_on, disk_by, fallen, false, is_alive, is_on}
+use Rattle.iot_laptop.proofs.Common.{live_by, live_in, live_of, live_with, lives_then, map, no_text, on_is, possibly_sure, refl, rules}
+use Rattle.iot_laptop.proofs.Common.{seating, second_class, stamps_by, state_by, state_in, state_of, subst, sym, true, ℕ, [], ◌∙◌, ◌≡◌}
+use Rattle.iot_laptop.proofs.SeatsLaws.{known_again, none_known}
+use Rattle.{iot_laptop.specs.Laptops.NodeStands, iot_machine.specs.Sound.Possibly}
 use Rattle.iot_standing.proofs.{KeptLaws.idle_runs, KeptLaws.stands_with, RunsLaws.are_begun, RunsLaws.lives_all_second}
 use Rattle.iot_machine.specs.Machine as machine
 

@@ -1,12 +1,11 @@
 -- What befalls a laptop: its link, and a start, a crash, a restart and an armed disk of its node.
-use Rattle.std.proofs.Common.{codes, ◌≢◌, ◌⊎◌}
-use Rattle.{std.proofs.lemmas.Result.on_ok_weaker, iot_count.specs.Counts.Rose}
-use Rattle.{iot_disk.specs.Disk.Storing, iot_disk.specs.declared.disk.Pick.Pick, iot_judging.proofs.SpelledTreesLaws.far_root_spelled}
-use Rattle.{iot_kept.specs.Rules.header, iot_kept.specs.States.opening, iot_laptop.proofs.CallsLaws.keeps_post}
-use Rattle.iot_laptop.proofs.Common.{AreNamed, Asks, At, Before, Besides, Bool, ClientStands, ClientState}
-use Rattle.iot_laptop.proofs.Common.{CutsAll, Declared, Down, FallenStands, IsClientImage, IsTree, KeepsDisk, Laptop, LaptopStands}
-use Rattle.iot_laptop.proofs.Common.{List, Medium, Node, None, OnOk, Option, Part, Post, PostStands, Reclassed}
-use Rattle.iot_laptop.proofs.Common.{Result, Returned, Seated, Stands, StandsAnyhow, StepFrom, Then, all_second, ap, append-nil}
+use Rattle.std.proofs.{Common.codes, Common.◌≢◌, Common.◌⊎◌, lemmas.Result.on_ok_weaker}
+use Rattle.{iot_count.specs.Counts.Rose, iot_disk.specs.Disk.Storing, iot_disk.specs.declared.disk.Pick.Pick}
+use Rattle.{iot_judging.proofs.SpelledTreesLaws.far_root_spelled, iot_kept.specs.Rules.header, iot_kept.specs.States.opening}
+use Rattle.iot_laptop.proofs.{CallsLaws.keeps_post, Common.AreNamed, Common.Asks, Common.At, Common.Before}
+use Rattle.iot_laptop.proofs.Common.{Besides, Bool, ClientStands, ClientState, CutsAll, Declared, Down, FallenStands, IsClientImage, IsTree}
+use Rattle.iot_laptop.proofs.Common.{KeepsDisk, Laptop, LaptopStands, List, Medium, Node, None, OnOk, Option, Part, Post, PostStands}
+use Rattle.iot_laptop.proofs.Common.{Reclassed, Result, Returned, Seated, Stands, StandsAnyhow, StepFrom, Then, all_second, ap, append-nil}
 use Rattle.iot_laptop.proofs.Common.{arith, asks, at_each, at_one, awake, begun_of, bind, connected, counts_on, disk_by, does, fallen}
 use Rattle.iot_laptop.proofs.Common.{false, goes_on, inl, inr, is_alive, is_on, joined, live_in, live_with, lives_then, no_text, on_is}
 use Rattle.iot_laptop.proofs.Common.{quiet, refl, rules, same_Some, seating, state_by, state_in, subst, sym, true, ℕ, [], ◌++◌, ◌∙◌, ◌≡◌}

@@ -6,25 +6,24 @@ use Rattle.iot_client.specs.Calls.{StepIs, joining, lives_after, next_acts, othe
 use Rattle.iot_client.specs.declared.{ended.Ended.Ended as EndedIs, steps.Step.Step}
 use Rattle.iot_kept.{proofs.SyncedLaws.synced_numbered, specs.States.view}
 use Rattle.iot_laptop.proofs.CallsLaws.{Called, Known, answered_so, from_known, goes_trails, known_was, notes_at, notes_halt}
-use Rattle.iot_laptop.proofs.Common.{Asks, Bool, CanFollow, ChangesClasses, Client, ClientFault, ClientStands, ClientState, Code, CutsOff}
-use Rattle.iot_laptop.proofs.Common.{Declared, EndsAlone, Err, Halt, IfOk, IfOk-at_ok, IfOk-weaker, IsErrOf, IsFirstOf, IsScript, Item}
-use Rattle.iot_laptop.proofs.Common.{KeepsTrails, KeptLive, Laptop, LaptopStands, List, Live, Medium, NoMemory, None, Notes, NotesAlone}
-use Rattle.iot_laptop.proofs.Common.{Ok, OnOk, Option, Over, Reclassed, Result, Some, State, StateKept, StepsTo, Stopped}
+use Rattle.iot_laptop.proofs.Common.{Asks, Bool, CanFollow, ChangesClasses, Client, ClientFault, ClientStands, ClientState}
+use Rattle.iot_laptop.proofs.Common.{Code, CutsOff, Declared, EndsAlone, Err, Halt, IfOk, IfOk-at_ok, IfOk-weaker, IsErrOf, IsFirstOf}
+use Rattle.iot_laptop.proofs.Common.{IsScript, Item, KeepsTrails, KeptLive, Laptop, LaptopStands, List, Live, Medium, NoMemory, None}
+use Rattle.iot_laptop.proofs.Common.{Notes, NotesAlone, Ok, OnOk, Option, Over, Reclassed, Result, Some, State, StateKept, StepsTo, Stopped}
 use Rattle.iot_laptop.proofs.Common.{Transaction, UnlessNoMemory, acts_output, after, answers, ap, append-nil, arith, asks, at_each, at_one}
 use Rattle.iot_laptop.proofs.Common.{bind, disk_of, does, done, false, joined, live_in, live_numbered, live_of, may_end_if_any, numbered}
 use Rattle.iot_laptop.proofs.Common.{quiet, records_of, refl, rules, same_Some, second_class, stamps_by, stamps_in, stamps_of, stands_so}
 use Rattle.iot_laptop.proofs.Common.{state_by, state_in, state_of, subst, sym, transaction_name, true, ℕ, [], ◌++◌, ◌==◌, ◌∙◌, ◌∷◌, ◌≡◌}
-use Rattle.iot_laptop.{proofs.NodesLaws.reclasses, specs.Alone.CertifiesAlone}
-use Rattle.iot_laptop.specs.Alone.{ComparesAlone, StartsAlone, YieldsAlone, change_by, set_class, yielding, yields_by}
+use Rattle.iot_laptop.proofs.NodesLaws.{reclasses}
+use Rattle.iot_laptop.specs.Alone.{CertifiesAlone, ComparesAlone, StartsAlone, YieldsAlone, change_by, set_class, yielding, yields_by}
 use Rattle.iot_laptop.specs.Below.{Compared, Same, has_any, option_map, waits_of}
 use Rattle.iot_laptop.specs.Calls.{Begins, IsDoneIn, IsGoneIfAny, NextIs, TakesStep, acts_by, certified_if, compared_if, waits_after}
-use Rattle.iot_machine.proofs.StepsLaws.{gets}
-use Rattle.iot_machine.specs.{Calls.Answers, Calls.unless_over, Clients.act_once, Clients.begin, Clients.next_step, Machine.classed}
-use Rattle.{iot_node.specs.Steps.EndsBy, iot_standing.proofs.KeptLaws.acted_live, iot_standing.proofs.KeptLaws.again_live}
-use Rattle.iot_standing.proofs.KeptLaws.{begun_live, ended_live, ended_waits, parts as reads_part, same_reads, yielded_live, yields}
-use Rattle.iot_standing.proofs.RunsLaws.{SoOf, kept_as, kept_both, number_found, own_number, so_of}
-use Rattle.iot_standing.proofs.StatesLaws.{acts_is, may_end_is, next_is, one_is}
-use Rattle.iot_standing.specs.{Kept.RunningKept, States.RunningStands}
+use Rattle.iot_machine.{proofs.StepsLaws.gets, specs.Calls.Answers, specs.Calls.unless_over, specs.Clients.act_once, specs.Clients.begin}
+use Rattle.{iot_machine.specs.Clients.next_step, iot_machine.specs.Machine.classed, iot_node.specs.Steps.EndsBy}
+use Rattle.iot_standing.proofs.KeptLaws.{acted_live, again_live, begun_live, ended_live, ended_waits, parts as reads_part, same_reads}
+use Rattle.iot_standing.proofs.{KeptLaws.yielded_live, KeptLaws.yields, RunsLaws.SoOf, RunsLaws.kept_as, RunsLaws.kept_both}
+use Rattle.iot_standing.proofs.{RunsLaws.number_found, RunsLaws.own_number, RunsLaws.so_of, StatesLaws.acts_is, StatesLaws.may_end_is}
+use Rattle.iot_standing.{proofs.StatesLaws.next_is, proofs.StatesLaws.one_is, specs.Kept.RunningKept, specs.States.RunningStands}
 use Rattle.iot_tree.specs.declared.{acts.Act.Act, labels.OnConflict.OnConflict as OnConflictNamed, questions.Question.Question}
 use Rattle.iot_machine.specs.Clients as clients
 use Rattle.iot_machine.specs.Machine as machine
@@ -230,12 +229,14 @@ module _ {D : Type 0} (was : Client D) (number : ℕ) where
     next_by (Ok step) same = λ scripts m it here runs.
         let so = stepped step same in
         rw (← class_then number m it)
-        (next_is so.own so.besides (first_then number m) it (found_then call scripts m here it runs so.own so.besides so.is so.lives) so.code so.has was now step so.so)
+        (next_is so.own so.besides (first_then number m) it
+        (found_then call scripts m here it runs so.own so.besides so.is so.lives) so.code so.has was now step so.so)
     next_by (Err NoMemory) same = tt
     next_by (Err Over) same = λ scripts m it here runs.
         let so = halted same in
         rw (← class_then number m it)
-        (acts_is so.own so.besides (first_then number m) it (found_then call scripts m here it runs so.own so.besides so.is so.lives) so.code so.has so.so.can)
+        (acts_is so.own so.besides (first_then number m) it
+        (found_then call scripts m here it runs so.own so.besides so.is so.lives) so.code so.has so.so.can)
 
     -- a server's stamps are kept
     pub step_trails : UnlessNoMemory (done result) (KeepsTrails laptop new)

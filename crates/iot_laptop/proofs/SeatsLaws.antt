@@ -2,12 +2,12 @@
 use Rattle.std.{proofs.Common.is_some, proofs.lemmas.Bool.cond-true, proofs.lemmas.Bool.cond_both, specs.List.list_all}
 use Rattle.iot_client.specs.Ties.{AreFound, classes_in}
 use Rattle.{iot_disk.specs.declared.faults.StartFault.StartFault, iot_kept.proofs.SyncedLaws.synced_stands}
-use Rattle.iot_kept.specs.{Rules.rules as kept_rules, Standing.EachStands, Standing.StandFor, Standing.records_in}
+use Rattle.iot_kept.specs.{Rules.rules as kept_rules, Standing.EachStands, Standing.StandFor, Standing.StandWith, Standing.records_in}
 use Rattle.iot_laptop.proofs.Common.{Besides, Bool, Client, ClientState, IsClientImage, IsTied, List, Live, Medium, None, Post, RunKept}
-use Rattle.iot_laptop.proofs.Common.{Seated, Some, StandWith, State, StateKept, Transaction, Up, ap, begun_of, besides, counts_on, disk_of}
-use Rattle.iot_laptop.proofs.Common.{false, if◌then◌else◌, inl, inr, live_by, live_of, live_with, none_besides, place_of, records_of, refl}
-use Rattle.iot_laptop.proofs.Common.{rules, same_Some, same_counts, seating, stamps_by, stamps_of, state_of, subst, sym, true, ℕ, [], ◌∙◌}
-use Rattle.iot_laptop.{proofs.Common.◌∷◌, proofs.Common.◌≡◌, specs.Seats.IsSeated}
+use Rattle.iot_laptop.proofs.Common.{Seated, Some, State, StateKept, Transaction, Up, ap, begun_of, besides, counts_on, disk_of, false}
+use Rattle.iot_laptop.proofs.Common.{if◌then◌else◌, inl, inr, live_by, live_of, live_with, none_besides, place_of, records_of, refl, rules}
+use Rattle.iot_laptop.proofs.Common.{same_Some, same_counts, seating, stamps_by, stamps_of, state_of, subst, sym, true, ℕ, [], ◌∙◌, ◌∷◌}
+use Rattle.iot_laptop.{proofs.Common.◌≡◌, specs.Seats.IsSeated}
 use Rattle.iot_node.specs.Keeping.{CanStart, Comes, CountsStart, EachIs, Fails, HoldSame}
 use Rattle.{iot_slots.specs.Cells.next, iot_stamp.proofs.TrailsLaws.none_lent}
 use Rattle.{iot_stamp.specs.Stamps.unstamped, iot_stamp.specs.Trails.lent_stamps, iot_standing.proofs.RunsLaws.none_live}

@@ -7,8 +7,8 @@ use Rattle.iot_server_node.proofs.Common.{Refines, ServerKeeper, ServerNode, Ser
 use Rattle.iot_server_node.proofs.Common.{disk_of, disks_in, false, inl, inr, is_on, is_up, kept_text, lists, on_both, option_map, placed}
 use Rattle.iot_server_node.proofs.Common.{promote_words, refl, same_Some, server_name, sides_of, subst, sym, traffic_in, true, turned_post}
 use Rattle.iot_server_node.proofs.{Common.ℕ, Common.◌+◌, Common.◌∙◌, Common.◌≡◌, PairsLaws.both_so, PairsLaws.other_left}
-use Rattle.iot_server_node.{proofs.ServersLaws.Posted, proofs.ServersLaws.known_comes_back, specs.Disks.ArmsOther}
-use Rattle.iot_server_node.specs.{Disks.IsPlaced, Disks.Sides, Disks.other_of, Disks.sides, Prelude.Arms, Prelude.Traffic, Prelude.armed_with}
+use Rattle.iot_server_node.{proofs.ServersLaws.Posted, proofs.ServersLaws.known_comes_back, specs.Disks.ArmsOther, specs.Disks.IsPlaced}
+use Rattle.iot_server_node.specs.{Disks.Sides, Disks.other_of, Disks.sides, Prelude.Arms, Prelude.Traffic, Prelude.armed_with}
 use Rattle.iot_server_node.specs.Servers.{ArmsServersBackup, HasBackup, HasOther, Promotes, given_up_in, is_promoted}
 use Rattle.iot_node.specs.Posts as posts
 

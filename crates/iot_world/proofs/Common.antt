@@ -14,12 +14,12 @@ pub use Rattle.iot_machine.specs.{Events.names_in, Events.node_part, Machine.cli
 pub use Rattle.iot_machine.specs.{Nodes.Node, Nodes.paired, Refining.StepsTo, Serving.kept_text, Serving.server_name, Texts.line}
 pub use Rattle.iot_node.specs.{Disks.counts_on, Posts.PostStands, Prelude.next, declared.post.Post.Post}
 pub use Rattle.iot_node.specs.declared.post.Post.TheVariants.{Between, Down, Up}
-pub use Rattle.iot_server_node.{proofs.BeginningLaws.commits_same, specs.Disks.Image, specs.Disks.on_both}
-pub use Rattle.iot_server_node.specs.{Disks.placed, Keepers.lists, Servers.HavingAnswered, Servers.IsBeside, Servers.IsOneMoreIfAny}
-pub use Rattle.iot_server_node.specs.{Servers.KeepsBeside, Servers.KeepsCommits, Servers.is_up, declared.keeper.ServerKeeper.ServerKeeper}
-pub use Rattle.{iot_server_node.specs.declared.server.ServerNode.ServerNode, iot_store.specs.Store.state_of}
-pub use Rattle.{iot_tree.specs.Profiles.Profile, iot_world.specs.Disks.HasEnds, iot_world.specs.Disks.ServerBegins}
-pub use Rattle.iot_world.specs.{Disks.other_of, Disks.with_ends, Prelude.AllByRecursion, Prelude.Client, Prelude.ClientStands}
+pub use Rattle.iot_server_node.proofs.BeginningLaws.{commits_same}
+pub use Rattle.iot_server_node.specs.{Disks.Image, Disks.on_both, Disks.other_of, Disks.placed, Keepers.lists}
+pub use Rattle.iot_server_node.specs.Servers.{HavingAnswered, IsBeside, IsOneMoreIfAny, KeepsBeside, KeepsCommits, is_up}
+pub use Rattle.iot_server_node.specs.declared.{keeper.ServerKeeper.ServerKeeper, server.ServerNode.ServerNode}
+pub use Rattle.{iot_store.specs.Store.state_of, iot_tree.specs.Profiles.Profile, iot_world.specs.Disks.HasEnds}
+pub use Rattle.iot_world.specs.{Disks.ServerBegins, Disks.with_ends, Prelude.AllByRecursion, Prelude.Client, Prelude.ClientStands}
 pub use Rattle.iot_world.specs.Prelude.{Commit, Declared, Disks, Event, Extends, HasPlaces, KeepsDisk, KeepsTrails, Laptop, Machine}
 pub use Rattle.iot_world.specs.Prelude.{Medium, NodeEvent, OnOk, Refines, ServerStands, StandsAnyhow, World, disk_in, disk_of, event_part}
 pub use Rattle.iot_world.specs.{Prelude.is_promoted, Prelude.vec_capacity, Prelude.vec_len, World.ArePlaced, World.ClientIs}

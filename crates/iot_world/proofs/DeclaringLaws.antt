@@ -1,7 +1,6 @@
 -- A new world is that of a machine that has opened, and what is declared in a world is declared in the machine.
-use Rattle.std.proofs.lemmas.Slice.Zip.{all_zipped_more}
 use Rattle.std.proofs.{Common.bytes_eq, Math.Seq.get_or-append_seam, Math.Seq.set-append_seam, Math.Seq.take-append_seam}
-use Rattle.std.proofs.lemmas.{List.Folds.find-append, Slice.Eq.bytes_eq-Decides}
+use Rattle.std.proofs.lemmas.{List.Folds.find-append, Slice.Eq.bytes_eq-Decides, Slice.Zip.all_zipped_more}
 use Rattle.{iot_client.specs.Messages.nothing_held, iot_event.specs.Meanings.is_declared}
 use Rattle.{iot_exchange.proofs.FollowingLaws.follows_nothing, iot_exchange.specs.Scripts.script_of, iot_lang.specs.Code.Code}
 use Rattle.iot_laptop.specs.Laptops.{FallenStands, awake, fallen, unopened_laptop}

@@ -4,8 +4,8 @@ use Rattle.{iot_disk.specs.Disk.Storing, iot_judging.specs.Records.IsImage, iot_
 use Rattle.{iot_kept.specs.Standing.StandFor, iot_kept.specs.States.Transaction, iot_laptop.proofs.NodesLaws.node_stands}
 use Rattle.{iot_laptop.proofs.RestartLaws.keeps_any, iot_laptop.proofs.SeatsLaws.seat_images, iot_machine.specs.Events.no_text}
 use Rattle.iot_node.{proofs.PostsLaws.lasts_in, specs.Disks.CountsOn, specs.Keeping.Keeping, specs.Posts.HoldsEither, specs.Posts.disk_of}
-use Rattle.iot_server_node.proofs.BeginningLaws.{image_goes_on, own_goes_on, stands_go_on}
-use Rattle.iot_server_node.{proofs.ServersLaws.lasts, specs.Disks.IsPlaced, specs.Disks.MayLeave}
+use Rattle.iot_server_node.proofs.{BeginningLaws.image_goes_on, BeginningLaws.own_goes_on, BeginningLaws.stands_go_on, ServersLaws.lasts}
+use Rattle.iot_server_node.specs.Disks.{IsPlaced, MayLeave, own_of}
 use Rattle.iot_standing.specs.Kept.{RunKept, StateKept}
 use Rattle.iot_world.proofs.BeginsLaws.{begins_there, last_begins, lone, pair_of, pairs_begin}
 use Rattle.iot_world.proofs.Common.{Between, Bool, Call, Client, ClientStands, ClientState, Commit, Counts, Declared, Disks, Down}
@@ -17,7 +17,7 @@ use Rattle.iot_world.proofs.Common.{names_in, next, on_both, or_parts, other_of,
 use Rattle.iot_world.proofs.Common.{subst, sym, true, with_clients, with_ends, with_first, ℕ, [], ◌++◌, ◌+◌, ◌||◌, ◌∙◌, ◌∷◌, ◌≡◌, ◌⊎◌}
 use Rattle.iot_world.proofs.ListLaws.{each_length, each_map, each_same_as}
 use Rattle.iot_world.proofs.PlacesLaws.{ServerPlaced, ends_as, has_places, places_list, promoted_at, promoted_is, server_list}
-use Rattle.iot_world.{proofs.PlacesLaws.server_placed, proofs.WorldsLaws.same_length, specs.Disks.CountOn, specs.Disks.own_of}
+use Rattle.iot_world.{proofs.PlacesLaws.server_placed, proofs.WorldsLaws.same_length, specs.Disks.CountOn}
 use Rattle.iot_world.specs.Holding.{DisksHold, Holds, HoldsServer, IsKept, IsListed, KeepsClient, running_kept, state_kept}
 use Rattle.iot_world.specs.Prelude.{true}
 use Rattle.iot_machine.specs.Machine as machine

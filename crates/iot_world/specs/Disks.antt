@@ -4,8 +4,8 @@ use Rattle.std.specs.Prelude.{◌++◌, ◌+◌, ◌∷◌, ◌≡◌, ◌⊎◌
 use Rattle.{iot_count.specs.Counts.Rose, iot_judging.specs.Lists.state_of}
 use Rattle.{iot_machine.specs.Nodes.Counts, iot_machine.specs.Nodes.paired, iot_server_node.specs.Records.GoesOnFrom}
 use Rattle.iot_world.specs.Prelude.{AllByRecursion, Bool, Client, Commit, List, Machine, Medium, false, length, map, true, ℕ, []}
-pub use Rattle.iot_server_node.specs.Disks.{other_of, own_of}
 pub use Rattle.{std.specs.List.AllZip as Each, iot_node.specs.Disks.CountsOn, iot_node.specs.Disks.IsEmpty, iot_node.specs.Disks.counts_on}
+pub use Rattle.iot_server_node.specs.Disks.{other_of, own_of}
 
 -- ten empty disks on which nothing is pending
 pub record AreFresh {D : Type 0} (medium : Medium D) (disks : List D) : Type 0 where

@@ -1,4 +1,4 @@
-use Rattle.iot_server_node.proofs.{Common.Disks, Common.Some, Common.ap, Common.refl, Common.same_Some, Common.sym, Common.◌∙◌}
+use Rattle.iot_server_node.proofs.Common.{Disks, Some, ap, refl, same_Some, sym, ◌∙◌}
 use Rattle.iot_server_node.proofs.server.ServerNode.into_disks.Goals as goal
 
 pub into_disk-requires : goal.into_disk-requires

@@ -1,6 +1,5 @@
-use Rattle.std.proofs.Common.{rules}
-use Rattle.{iot_disk.specs.declared.faults.JournalFault.TheVariants.Stopped}
-use Rattle.iot_server_node.proofs.{BeginningLaws.handled_records, BeginningLaws.refused_records}
+use Rattle.{std.proofs.Common.rules, iot_disk.specs.declared.faults.JournalFault.TheVariants.Stopped}
+use Rattle.iot_server_node.proofs.BeginningLaws.{handled_records, refused_records}
 use Rattle.iot_server_node.proofs.{Common.committed_since, Common.kept_text, Common.refl, Common.◌∙◌, Common.◌≡◌, ServersLaws.live_is}
 use Rattle.iot_server_node.proofs.ServingLaws.{judges, judges_stopped, lends, lends_always, stays_stamped}
 use Rattle.iot_server_node.proofs.server.ServerNode.serve.Goals as goal

@@ -1,5 +1,5 @@
-use Rattle.iot_world.proofs.{Common.arith, Common.refl, Common.[], DeclaringLaws.all_fresh, DeclaringLaws.follows, DeclaringLaws.gives_back}
-use Rattle.iot_world.proofs.{DeclaringLaws.opens, DeclaringLaws.opens_unarmed, DeclaringLaws.rest_fresh}
+use Rattle.iot_world.proofs.Common.{arith, refl, []}
+use Rattle.iot_world.proofs.DeclaringLaws.{all_fresh, follows, gives_back, opens, opens_unarmed, rest_fresh}
 use Rattle.iot_world.proofs.world.World.new.Goals as goal
 
 pub take_ends-first-requires : goal.take_ends-first-requires
