@@ -8,7 +8,7 @@ use Rattle.iot_exchange.proofs.Common.{ItemsStand, KeepsDisk, KeepsDisks, KeepsT
 use Rattle.iot_exchange.proofs.Common.{NotesAlone, Ok, OnConflict, Option, Over, Pair, PairStands, Repeats, Result, SamePlace, ServerNode}
 use Rattle.iot_exchange.proofs.Common.{ServerStands, Some, StepFrom, StepsTo, SyncsNext, Tells, Then, Try, UnlessNoMemory, UpStands, Yields}
 use Rattle.iot_exchange.proofs.Common.{after_acts, ap, append-nil, arith, codes, disk_in, done, either, false, has_any, is_drained, joined}
-use Rattle.iot_exchange.proofs.Common.{kept, length, line, not, pends, quiet, refl, runs, runs_is, stamps_in, state_in, subst, sym, true}
+use Rattle.iot_exchange.proofs.Common.{kept, length, line, not, pends, quiet, refl, runs_is, stamps_in, state_in, subst, sym, true}
 use Rattle.iot_exchange.proofs.Common.{two, unless_over, waits_is, waits_of, yield_if, yielding, ℕ, [], ◌++◌, ◌+◌, ◌-◌, ◌<◌, ◌∙◌, ◌∷◌, ◌≡◌}
 use Rattle.iot_exchange.proofs.StepsLaws.{answers_from, asks_from, behind, refuses_from, says_from, then_from}
 use Rattle.iot_exchange.specs.{Pairs.AnyStands, Pairs.IsStandingWith, Pairs.KeepsServed, Words.SyncsAll}
@@ -266,15 +266,13 @@ lift_then lifts each = record {
 lift_gets : {A : Type 0} (ask : Client → A) (change : Client → Client) → ((m : Client) → (change m).name ≡ m.name)
     → Lifts (Gets ask change) (Gets (λ pair. ask pair.client) (λ pair. record pair { client = change pair.client }))
 lift_gets ask change same = record {
-  lift = λ pair text b n it.
-      ((it.0, it.1, (λ i. record pair { client = it.2 i })), ap (λ (client : Client). client.name) it.2 ∙ same pair.client);
+  lift = λ pair text b n it. ((it.0, it.1, (λ i. record pair { client = it.2 i })), (λ i. (it.2 i).name) ∙ same pair.client);
 }
 
 -- a change of what it keeps
 pub notes : (change : ClientState → ClientState) → Lifts (NotesAlone change) (Notes change)
-notes change = lift_then (record {
-  lift = λ pair text a n it. (record { inner = n; step = it; is = refl }, ap (λ (client : Client). client.name) it.is);
-}) (λ on. lift_gets (λ _. unless_stopped on) (λ m. m) (λ m. refl))
+notes change = lift_then (record { lift = λ pair text a n it. (record { inner = n; step = it; is = refl }, (λ i. (it.is i).name)) })
+    (λ on. lift_gets (λ _. unless_stopped on) (λ m. m) (λ m. refl))
 
 lift_unless : {A B : Type 0} {next : A → Try Client B} {more : A → Try Pair B} → ((a : A) → Lifts (next a) (more a)) → (o : Option A)
     → Lifts (unless_over next o) (unless_over more o)
@@ -303,10 +301,8 @@ yields_pair number pair = yields_by_pair number (pends pair) pair
 
 pub yields : (number : ℕ) → Lifts (YieldsAlone number) (Yields number)
 yields number = record {
-  lift = λ pair text a n it. (
-    (it.0, (λ i. record pair { client = it.1 i }) ∙ yields_pair number pair),
-    ap (λ (client : Client). client.name) it.1 ∙ yields_name number (has_any pair.client.node.durable.items) pair.client,
-  );
+  lift = λ pair text a n it.
+      ((it.0, (λ i. record pair { client = it.1 i }) ∙ yields_pair number pair), (λ i. (it.1 i).name) ∙ yields_name number _ pair.client);
 }
 
 pub yields_then : (number : ℕ) (change : ClientState → ClientState)
@@ -321,11 +317,9 @@ compares it = record { lift = by }
     by : (pair : Pair) (text : List ℕ) (found : Compared) (n : Client) → ComparesAlone it pair.client text found n
         → Compares it pair text found (record pair { client = n }) × (n.name ≡ pair.client.name)
     by pair text found n (alone.same is silent same stays) =
-        (machine.same is silent same (λ i. record pair { client = stays i }), ap (λ (client : Client). client.name) stays)
-    by pair text found n (alone.parts read question is silent same stays) = (
-      machine.parts read question is silent same (λ i. record pair { client = stays i }),
-      ap (λ (client : Client). client.name) stays,
-    )
+        (machine.same is silent same (λ i. record pair { client = stays i }), (λ i. (stays i).name))
+    by pair text found n (alone.parts read question is silent same stays) =
+        (machine.parts read question is silent same (λ i. record pair { client = stays i }), (λ i. (stays i).name))
 
 -- what was found is noted
 abbrev pub noted : (number : ℕ) → Compared → Try Pair Compared
@@ -416,16 +410,11 @@ module _ {D : Type 0} {medium : Medium D} {scripts : List Declared} {most : ℕ}
         (it : Does medium scripts round v w y z inner) where
       -- and it goes on
       pub one_more : {b : Bool} → inner ≡ Ok b → b ≡ true → SoFar medium scripts most round u x (done + 1) w z
-      one_more was on = record {
-        whole = λ last t result rest. more within
-            (goes_then {next = either (Repeats (most - (done + 1)) round) (Answers (Some tt))} (was ∙ ap (λ (b : Bool). Ok b) on) it rest);
-      }
+      one_more was on = record { whole = λ last t result rest. more within (goes_then (rw on at was) it rest) }
 
       -- that was the last one
       pub last_round : {b : Bool} → inner ≡ Ok b → b ≡ false → Does medium scripts (Repeats most round) u w x z (Ok tt)
-      last_round was off = more within
-          (goes_then {next = either (Repeats (most - (done + 1)) round) (Answers (Some tt))} (was ∙ ap (λ (b : Bool). Ok b) off) it
-          (answers it.disks))
+      last_round was off = more within (goes_then (rw off at was) it (answers it.disks))
 
       -- it has not gone on
       pub halted_round : {outer : Result (Unit {0}) Halt} {fault : Halt} → inner ≡ Err fault → IsErrAnd outer (λ other. other ≡ fault)
@@ -458,10 +447,8 @@ module _ {D : Type 0} {medium : Medium D} {scripts : List Declared} {u : Both D}
       && u.laptop.link.up) ≡ b → OfEach medium scripts u (λ pair. b ≡ is_drained pair)
   drained_is is names c pair here =
       let it = here.client.is in
-      let alive = is_awake medium scripts u.laptop pair.client it in
-      let waits : waits_of (state_in u.laptop).items ≡ pends pair = waits_is _ _ _ _ it.state in
-      let does_run : has_any (state_in u.laptop).running ≡ runs pair = runs_is _ _ _ _ it.state in
-      sym is ∙ (λ i. alive i && not (waits i) && not (does_run i) && (it.link i).up)
+      sym is ∙ (λ i. is_awake medium scripts u.laptop pair.client it i && not (waits_is _ _ _ _ it.state i)
+      && not (runs_is _ _ _ _ it.state i) && (it.link i).up)
 
 -- ---- all of them
 
@@ -473,8 +460,7 @@ items_long items t ms stand = absurd stand
 pub all_by : {D : Type 0} {medium : Medium D} {scripts : List Declared} {u w : Both D} {x z : List ℕ} {most : ℕ}
     {result : Result (Unit {0}) Halt} → most ≡ 3 * length (state_in u.laptop).items
     → Does medium scripts (Repeats most SyncsNext) u w x z result → Does medium scripts SyncsAll u w x z result
-all_by is it =
-    asks_then {next = λ n. Repeats (3 * n) SyncsNext} (λ names c pair here. items_long _ _ _ here.client.is.state.items) (rw is at it)
+all_by is it = asks_then (λ names c pair here. items_long _ _ _ here.client.is.state.items) (rw is at it)
 
 -- ---- a task, of a client that is alive or down
 

@@ -112,9 +112,8 @@ module _ {D : Type 0} {medium : Medium D} {old new : Laptop D} (server : ServerN
     linked : {q : Passage} {later : ServerNode D} {pair : Pair} → p ≡ q → UpStands medium scripts names c (two old later) pair
         → UpStands medium scripts names c (two new later) (record pair { client = after_passage q pair.client })
     linked {q} {pair = pair} how here =
-        let it : Relinked medium (after_passage q) old new = subst (λ (r : Passage). Relinked medium (after_passage r) old new) how after in
-        in_place here (it.stands scripts pair.client here.client.is) it.place (same_name q pair.client)
-        (subst (λ (held : Stamps). Follows held pair.server.durable) (sym it.stamps) here.follows)
+        let it : Relinked medium (after_passage q) old new = rw how at after in
+        in_place here (it.stands scripts pair.client here.client.is) it.place (same_name q pair.client) (rw it.stamps here.follows)
 
     module _ {A : Type 0} {request : Call (Node (List Commit)) (Option A)} where
       exchanged : {q : Passage} {v : Both D} {x y : List ℕ} {a : Option A} → p ≡ q
@@ -162,8 +161,7 @@ module _ {D : Type 0} {medium : Medium D} {old new : Laptop D} (server : ServerN
           is = exchanged how (bind (handles grows None served).is (gets (λ pair here.
               let mid = linked how here in (
                 refl,
-                in_place mid (broke.stands scripts pair.client mid.client.is) broke.place refl
-                    (subst (λ (held : Stamps). Follows held pair.server.durable) (sym broke.stamps) mid.follows),
+                in_place mid (broke.stands scripts pair.client mid.client.is) broke.place refl (rw broke.stamps mid.follows),
               ))));
         }
 
@@ -273,9 +271,7 @@ module _ {D : Type 0} {medium : Medium D} {message : Message} {reply : Vec ℕ G
           cut = first.1;
           spells = spells;
           steps = λ scripts names c.
-              let e = replied scripts names c in
-              subst (λ (t : Nodes). StepsOn medium scripts names c (Exchange (Lends tree errand)) u v x y (Some t))
-              (same_tree short (spells_tree e.1) spells) e.2;
+              let e = replied scripts names c in rw (same_tree short (spells_tree e.1) spells) at e.2;
           follows = λ scripts names c pair here.
               let now = there scripts names c pair here in
               follows_brought held pair.server.durable (stamps_of u.server) errand reply.items first.0 now.0 now.1
@@ -286,9 +282,7 @@ module _ {D : Type 0} {medium : Medium D} {message : Message} {reply : Vec ℕ G
 
   module _ (errand : Errand) (is : IsErrand u.laptop.place (stamps_in u.laptop) errand message.request.items) where
     lent_own : Lent medium (stamps_in v.laptop) errand reply.items (Exchange (Lends (state_in u.laptop).held errand)) u v x y
-    lent_own = lent u.laptop.place (stamps_in v.laptop) (state_in u.laptop).held errand
-        (subst (λ (laptop : Laptop D). IsErrand u.laptop.place (stamps_in laptop) errand message.request.items) (sym came.same) is)
-        (held_is u.laptop.post ∙ ap (λ (laptop : Laptop D). nodes_of (stamps_in laptop)) (sym came.same))
+    lent_own = lent u.laptop.place (stamps_in v.laptop) _ errand (rw came.same is) (rw came.same (held_is u.laptop.post))
         (λ scripts names c pair here. (here.follows, subst IsTree (held_is v.laptop.post) here.client.is.state.tree))
 
     -- the reply makes a tree of it, ..
@@ -312,11 +306,10 @@ module _ {D : Type 0} {medium : Medium D} {message : Message} {reply : Vec ℕ G
       where
         followed : (inner : Result (Unit {0}) Halt) → TakesStamps (base_of (stamps_in v.laptop) errand) reply.items v.laptop new inner
             → Unless inner (OfEach medium scripts v (λ pair. Follows (stamps_in new) pair.server.durable))
-        followed (Ok done) takes = λ names c pair here. subst (λ (now : Stamps). Follows now pair.server.durable)
-            (sym (takes lent_own.spells.changes lent_own.spells.spelled)) (lent_own.follows scripts names c pair here)
+        followed (Ok done) takes =
+            λ names c pair here. rw (takes _ lent_own.spells.spelled) (lent_own.follows scripts names c pair here)
         followed (Err NoMemory) takes = tt
-        followed (Err Over) takes = λ names c pair here.
-            subst (λ (now : Stamps). Follows now pair.server.durable) (sym takes) (follows_nothing pair.server.durable)
+        followed (Err Over) takes = λ names c pair here. rw takes (follows_nothing pair.server.durable)
 
   -- ---- the server's whole tree
 

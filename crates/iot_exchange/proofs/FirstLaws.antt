@@ -123,7 +123,7 @@ some_plan held mi option can = absurd can
 
 none_there : {items : List Item} (held : Nodes) (ms : List clients.Item) → items ≡ [] → ItemsStand items held ms → ms ≡ []
 none_there held [] none stand = refl
-none_there held (m ∷ ms) none stand = absurd (subst (λ (items : List Item). ItemsStand items held (m ∷ ms)) none stand)
+none_there held (m ∷ ms) none stand = absurd (rw none at stand)
 
 module _ {D : Type 0} {medium : Medium D} {scripts : List Declared} {names : List (List ℕ)} {c : ℕ} {old : Both D} {pair : Pair}
     (here : UpStands medium scripts names c old pair) where
@@ -176,8 +176,7 @@ module _ {D : Type 0} {medium : Medium D} {scripts : List Declared} {names : Lis
           → plan_of (kept pair).held head.first ≡ Some p
           → DoesFrom medium scripts names c (resolves (name_of t) (Some p)) pair new x z result
           → DoesFrom medium scripts names c Syncs pair new x z result
-      resolves_from is planned it =
-          asks_from {next = sync_head} (sym head.split) (resolves_at (conflict_stage stage_there is) planned it)
+      resolves_from is planned it = asks_from (sym head.split) (resolves_at (conflict_stage stage_there is) planned it)
 
       -- no message gets through
       misses_at : {s : Stage} {ms : clients.Stage} → SameStage s ms → (s ≡ kept_stages.Manual → ⊥)
@@ -198,8 +197,7 @@ module _ {D : Type 0} {medium : Medium D} {scripts : List Declared} {names : Lis
 module _ {D : Type 0} {medium : Medium D} {scripts : List Declared} {old : Both D} {x y : List ℕ} where
   pub syncs_none : (state_in old.laptop).items ≡ [] → KeepsDisks medium old old → y ≡ x ++ line (codes "nothing")
       → Does medium scripts Syncs old old x y (Ok Stays)
-  syncs_none none keeps wrote = each_from keeps
-      (λ names c pair here. asks_from {next = sync_head} (none_here here none) (says_from wrote here))
+  syncs_none none keeps wrote = each_from keeps (λ names c pair here. asks_from (none_here here none) (says_from wrote here))
 
   -- it waits for a decision by hand
   pub syncs_by_hand : {t : Transaction} → First IsByHand old.laptop t → KeepsDisks medium old old → y ≡ x ++ manual_line (name_of t)
@@ -247,9 +245,8 @@ module _ {D : Type 0} {medium : Medium D} {scripts : List Declared} {old : Both 
       let head_is_it = decided old.laptop (state_in old.laptop).items is in
       let first : First IsByHand old.laptop t = first_of head_is_it.0 head_is_it.1 in
       let mi = (head here first).first in
-      let manual : is_manual mi.stage ≡ true = ap is_manual (manual_stage (stage_there here first) first.is) in
       asks_from {next = if_manual call} (sym (head here first).split)
-      (rw manual (each names c mi (λ after there. name_there here first there) pair here)))
+      (rw (manual_stage (stage_there here first) first.is) (each names c mi (λ after there. name_there here first there) pair here)))
 
 -- no files are listed if none are kept
 no_files : entries (empty {K = List (List ℕ)} {X = List ℕ} {R = path_cmp}) ≡ []
@@ -397,10 +394,9 @@ module _ {D : Type 0} {laptop : Laptop D} {t : Transaction} (it : Submitted) (fi
     pub verdict_came : IsVerdict (head_reads (state_in laptop).items) reply.items
     verdict_came =
         let ready = came.ready in
-        let here = ready.stands in
-        let e = (came.asked.is ready.scripts ready.names ready.c (Judgment (submission_of (mi here first) ready.pair))
-        (asks_judgment here first first.is)).is in
-        record { told = e.0; is = says_it here first first.is reply.items e.0 e.1 }
+        let e = (came.asked.is ready.scripts ready.names ready.c (Judgment (submission_of (mi ready.stands first) ready.pair))
+        (asks_judgment ready.stands first first.is)).is in
+        record { told = e.0; is = says_it ready.stands first first.is reply.items e.0 e.1 }
 
     -- what the reply says of it becomes of it
     pub submits_told : {scripts : List Declared} {new : Laptop D} {z w : List ℕ} {inner : Result
@@ -451,12 +447,11 @@ module _ {scripts : List Declared} {held : Nodes} {item : Item} {mi : clients.It
     named = ap (λ (n : List ℕ). script_named n scripts) stands.name ∙ own;
     is = (λ i. Some (record { said = codes "reexec"; script = mi.script; budget = sym stands.budget i; offered = [] }));
   })
-  planned_by (options.Resolver script) has own is =
-      subst (IsPlannedBy scripts held item mi (options.Resolver script)) (same_Some _ plan is) (record {
-        script = script;
-        named = has;
-        is = (λ i. Some (record { said = script.name; script = script; budget = ACT_LIMIT; offered = files_of (sym stands.tree i) }));
-      })
+  planned_by (options.Resolver script) has own is = rw (← same_Some _ plan is) (record {
+    script = script;
+    named = has;
+    is = (λ i. Some (record { said = script.name; script = script; budget = ACT_LIMIT; offered = files_of (sym stands.tree i) }));
+  })
   planned_by option has own is = absurd cc
 
   planned : ItemIsNamed scripts mi → resolves.plan_of item ≡ Some plan → IsPlannedBy scripts held item mi mi.option plan
@@ -476,10 +471,8 @@ module _ {D : Type 0} {medium : Medium D} {scripts : List Declared} {laptop : La
       → Plans medium scripts laptop (plan_as (after_acts (state_in laptop).held first.item.acts) plan script)
   plans_it found m here =
       let it = its_plan m here in
-      let h = its_head m here in
-      (λ i. head_plan (sym here.state.held i) (h.split i)) ∙ it.is
-      ∙ ap (λ (s : Declared). Some (plan_as (after_acts (state_in laptop).held first.item.acts) plan s))
-      (same_Some _ _ (sym it.named ∙ found))
+      let same = same_Some _ _ (sym it.named ∙ found) in
+      (λ i. head_plan (sym here.state.held i) ((its_head m here).split i)) ∙ (rw same at it.is)
 
 -- ---- the first that waits
 
@@ -490,7 +483,7 @@ asking request = record { request = request; handed = None }
 -- what is planned for the head is planned for it
 plan_is : {D : Type 0} {laptop : Laptop D} {Is : Item → Type 0} {t : Transaction} {plan : plans.Plan} (first : First Is laptop t)
     → IsHeadPlan (state_in laptop).items plan → resolves.plan_of first.item ≡ Some plan
-plan_is {plan = plan} first is = (subst (λ (items : List Item). IsHeadPlan items plan) first.items is).1
+plan_is {plan = plan} first is = (rw first.items at is).1
 
 module _ {D : Type 0} {laptop : Laptop D} {t : Transaction} (request : Vec ℕ Global)
     (first : First (λ item. AsksAll laptop item request.items) laptop t) {server : ServerNode D} where
@@ -533,5 +526,4 @@ module _ {D : Type 0} {laptop : Laptop D} {t : Transaction} (request : Vec ℕ G
         (sym (ap (head_plan (kept pair).held) (head here first).split) ∙ plans pair.client here.client.is)
         (then_from (whole.steps scripts names c) here
         ((after p whole.tree (by_client (notes (reach (clients.Resolved (resolution_of p whole.tree)))) keeps place trails
-        (does whole.tree whole.spells scripts p (subst (λ (l : Laptop D). Plans medium scripts l p) (sym came.same) plans) coded.has)
-        more)).step names c)))
+        (does whole.tree whole.spells scripts p (rw came.same plans) coded.has) more)).step names c)))

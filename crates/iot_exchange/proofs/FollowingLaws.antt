@@ -12,7 +12,7 @@ use Rattle.{iot_laptop.specs.Laptops.state_by, iot_laptop.specs.declared.seated.
 use Rattle.iot_node.specs.declared.post.Post.{Post, TheVariants.Between, TheVariants.Down, TheVariants.Up}
 use Rattle.iot_stamp.proofs.AgreementLaws.{agrees_pruned, far_zero_pruned, up_pruned}
 use Rattle.iot_stamp.proofs.{CutsLaws.refresh_cut, CutsLaws.walk_cut, StampsLaws.nodes_with}
-use Rattle.iot_stamp.specs.{Agreement.Agrees, Agreement.IsCutTo, Agreement.IsPositive, Agreement.UpTo, Stamps.FarZero, Stamps.pruned}
+use Rattle.iot_stamp.specs.{Agreement.Agrees, Agreement.IsCutTo, Agreement.IsPositive, Stamps.FarZero, Stamps.pruned}
 use Rattle.iot_tree.{proofs.RowLaws.root_map, proofs.RowLaws.root_rows, specs.Snapshots.has, specs.Tree.root_alone}
 use Rattle.{iot_tree.specs.declared.nodes.Node.TheVariants.FarDir, iot_wire.specs.Meanings.Spells as SpellsReply}
 use Rattle.iot_wire.specs.declared.replies.Reply.TheVariants as replies
@@ -87,9 +87,7 @@ module _ (held : Stamps) (commits : List Commit) (server : Stamps) (errand : Err
         changes = changes_to server held errand;
         spelled = cut.spelled;
         is = made;
-        tree = subst IsTree (sym made)
-            (merged_tree (base_of held errand) server (paths_for server held errand) _ _ (base_tree errand) (base_far errand)
-            (cuts errand));
+        tree = rw made (merged_tree _ server (paths_for server held errand) _ _ (base_tree errand) (base_far errand) (cuts errand));
       }
 
   -- and what is held then follows the list, too
@@ -99,9 +97,8 @@ module _ (held : Stamps) (commits : List Commit) (server : Stamps) (errand : Err
       let one : IsOneMessage IsReply reply_spelling bytes = call_one _ _ _ reply_laws bytes short in
       let same : changes ≡ changes_to server held errand = let objects = one _ _ spells cut.spelled in cc in
       let k = paths_for server held errand in
-      let stamped = list_stamped commits in
-      subst (λ (now : Stamps). Follows now commits) (sym (ap (brought (base_of held errand)) same ∙ merges)) (record {
+      rw (same, merges) (record {
         far = far_zero_pruned server k;
         agrees = subst (Agrees (pruned server k)) is (agrees_pruned server k positive);
-        within = up_pruned server k (length commits + 1) (subst (λ (s : Stamps). UpTo s (length commits + 1)) (sym is) stamped.within);
+        within = up_pruned server k (length commits + 1) (rw is (list_stamped commits).within);
       })

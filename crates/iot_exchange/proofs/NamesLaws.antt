@@ -34,8 +34,7 @@ module _ (ws : List DeclaredScript) (name : List ℕ) (o : Option (Bor DeclaredS
 
   -- one is found if it is declared
   pub none_found : o ≡ None → IsSome (script_named name (map script_of ws)) → ⊥
-  none_found none named =
-      let e = subst IsSome (rw none at found_is) named in absurd cc
+  none_found none named = let e = subst IsSome (rw none at found_is) named in absurd cc
 
 -- ---- scripts by their places
 

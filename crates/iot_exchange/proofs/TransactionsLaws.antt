@@ -4,12 +4,12 @@ use Rattle.std.proofs.lemmas.{Bool.eq-eqb, Bool.leb-false, Bool.leb-true, Option
 use Rattle.std.specs.{Prelude.if◌then◌else◌, Prelude.leb, Slice.IsItemAt}
 use Rattle.iot_client.specs.{Calls.is_over_if_any, Calls.live_numbered, Calls.may_end_if_any, Ties.Live}
 use Rattle.iot_exchange.proofs.Common.{ACT_LIMIT, Answers, Asks, Bool, Bor, Both, Certified}
-use Rattle.iot_exchange.proofs.Common.{Client, ClientState, Closes, Compared, Compares, Declared, Does, DoesFrom, Ends, Err, Follows}
+use Rattle.iot_exchange.proofs.Common.{Client, ClientState, Closes, Compared, Declared, Does, DoesFrom, Ends, Err}
 use Rattle.iot_exchange.proofs.Common.{Goes, Halt, IsErrAnd, Item, ItemsStand, KeepsDisk, KeepsDisks, KeepsTrails, Laptop, LaptopStands}
 use Rattle.iot_exchange.proofs.Common.{List, Medium, NoMemory, Nodes, None, Notes, Ok, Option, Over, Pair, Repeats, Result, SamePlace}
-use Rattle.iot_exchange.proofs.Common.{ServerNode, Some, Stage, Stamps, Step, Steps, Tells, Then, Try, UnlessNoMemory, UpStands, Yields}
+use Rattle.iot_exchange.proofs.Common.{ServerNode, Some, Stage, Step, Steps, Tells, Then, Try, UnlessNoMemory, UpStands, Yields}
 use Rattle.iot_exchange.proofs.Common.{act_once, after_acts, again_line, ap, append-nil, begin_line, codes, compared_if, disk_in, done}
-use Rattle.iot_exchange.proofs.Common.{end_by, ended_as, false, fetched, has_any, if_runs, kept, length, line, line_of, map, next_of, not}
+use Rattle.iot_exchange.proofs.Common.{end_by, ended_as, false, fetched, has_any, kept, length, line, line_of, map, next_of, not}
 use Rattle.iot_exchange.proofs.Common.{option_copied, option_map, pends, place_said, refl, same_Some, slice_get, state_in, step_line, subst}
 use Rattle.iot_exchange.proofs.Common.{sym, transaction_name, true, two, unless_over, yield_if, yielding, ℕ, [], ◌++◌, ◌-◌, ◌∙◌, ◌∷◌, ◌≡◌}
 use Rattle.iot_exchange.proofs.DoesLaws.{Certifying, OfEach, Unless, answers}
@@ -92,10 +92,8 @@ pub says_queue : {D : Type 0} (medium : Medium D) (laptop : Laptop D) (x : List 
     → lines ≡ map line_of rs → y ≡ x ++ queue_text laptop.name (state_in laptop).items lines → (scripts : List Declared) (m : Client)
     → LaptopStands medium scripts laptop m → y ≡ x ++ queue_text m.name (queue_kept m.node.durable) (running_in m)
 says_queue medium laptop x rs lines run classes are wrote scripts m here =
-    let queue = queue_is here in
-    let stand = subst (λ (r : List Transaction). RunStand r (live_in laptop) m.first m.node.durable.running) (sym run) here.state.running in
-    let its_lines = are ∙ lines_are rs (live_in laptop) m m.node.durable.running classes stand in
-    wrote ∙ (λ i. x ++ queue_text (here.name i) (queue i) (its_lines i))
+    let its_lines = are ∙ lines_are rs (live_in laptop) m m.node.durable.running classes (rw run here.state.running) in
+    wrote ∙ (λ i. x ++ queue_text (here.name i) (queue_is here i) (its_lines i))
 
 -- the one at this place of those that wait, if so many do
 pub reads_at : {D : Type 0} {medium : Medium D} {scripts : List Declared} {u v : Both D} {x y : List ℕ} {o : Option Item} (place : ℕ)
@@ -155,9 +153,8 @@ module _ {D : Type 0} {medium : Medium D} {scripts : List Declared} {laptop : La
         (clients.numbered number m.node.durable)
     begun_said first class wrote =
         let k = run_found in
-        let its_class : first ≡ is_first number m =
-        same_Some first _ (class ∙ ap (option_map (λ live. live.first)) k.lives) ∙ k.stands.class
-        ∙ ap (λ (n : ℕ). is_first n m) (number_found number m.node.durable.running k.it k.is) in
+        let its_class : first ≡ is_first number m = same_Some _ _ (rw k.lives at class)
+        ∙ (rw (number_found number m.node.durable.running k.it k.is) at k.stands.class) in
         rw k.is (wrote ∙ (λ i. x ++ begin_line (transaction_name (here.name i) number) (k.stands.name i) (its_class i)))
 
     pub stepped_said : y ≡ x ++ step_line (transaction_name laptop.name number) (length r.acts)
@@ -188,8 +185,7 @@ meant_number : (k number : ℕ) (s : ClientState) (o : Option Running) → clien
 meant_number k number s None is named = absurd cc
 meant_number k number s (Some it) is named =
     let same : it.number ≡ number = same_Some it.number number named in
-    let asked : k ≡ number = sym (number_found k s.running it is) ∙ same in
-    record { it = it; is = is; found = subst (λ (n : ℕ). clients.numbered n s ≡ Some it) asked is; same = same }
+    record { it = it; is = is; found = rw (sym (number_found k s.running it is) ∙ same) at is; same = same }
 
 meant_first : (number : ℕ) (s : ClientState) (running : List Running) → s.running ≡ running
     → option_map (λ it. it.number) (slice_get running 0) ≡ Some number → Meant None number s
@@ -259,8 +255,7 @@ module _ {D : Type 0} {medium : Medium D} {old new : Laptop D} {server : ServerN
       → UpStands medium scripts names c (two new server) (yield_if number (pends pair) pair)
   yields_there {scripts} {names} {c} {pair} number it here =
       subst (UpStands medium scripts names c (two new server)) (yields_pair number pair)
-      (in_place here (it.stands scripts pair.client here.client.is) it.place (yields_name number (has_any (kept pair).items) pair.client)
-      (subst (λ (held : Stamps). Follows held pair.server.durable) (sym it.stamps) here.follows))
+      (in_place here (it.stands scripts pair.client here.client.is) it.place (yields_name number _ pair.client) (rw it.stamps here.follows))
 
 -- ---- steps
 
@@ -272,14 +267,11 @@ module _ {D : Type 0} {medium : Medium D} {scripts : List Declared} (number : �
     none_yielded {names} {c} {pair} none here = by (pends pair)
       where
         by : (b : Bool) → UpStands medium scripts names c u (yield_if number b pair)
-        by true = in_place here (record {
-          name = here.client.is.name;
-          link = here.client.is.link;
-          alive = here.client.is.alive;
-          node = here.client.is.node;
-          state = none_yields _ _ _ _ here.client.is.state number none;
-          named = here.client.is.named;
-        }) refl refl here.follows
+        by true =
+            let it = here.client.is in
+            let state = none_yields _ _ _ _ it.state number none in
+            in_place here (record { name = it.name; link = it.link; alive = it.alive; node = it.node; state = state; named = it.named })
+            refl refl here.follows
         by false = here
 
     pub steps_none : {x : List ℕ} → numbered number (state_in u.laptop).running ≡ None → KeepsDisks medium u u
@@ -287,8 +279,7 @@ module _ {D : Type 0} {medium : Medium D} {scripts : List Declared} (number : �
     steps_none none keeps = each_from keeps (λ names c pair here.
         let is = none_is _ _ _ _ here.client.is.state number none in
         gets_from tt _ (refl, refl)
-        (asks_from {next = step_of number loud} (sym (yields_of (clients.numbered number) number pair (pends pair) ∙ is))
-        (answers_from (none_yielded is here))))
+        (asks_from (sym (yields_of (clients.numbered number) number pair (pends pair) ∙ is)) (answers_from (none_yielded is here))))
 
   module _ {old new : Laptop D} {server : ServerNode D} {r : Transaction} (runs : numbered number (state_in old).running ≡ Some r) where
     -- it only yields, and then the next step follows
@@ -300,8 +291,7 @@ module _ {D : Type 0} {medium : Medium D} {scripts : List Declared} (number : �
         let one = found_stands _ _ _ _ here.client.is.state number r runs in
         gets_from tt _ (refl, refl)
         (asks_from {next = step_of number loud} (sym (yields_of (clients.numbered number) number pair (pends pair) ∙ one.is))
-        (asks_from {next = step_by number loud}
-        (sym (next_yielded one.it number pair ∙ is scripts pair.client one.it here.client.is one.is))
+        (asks_from (sym (next_yielded one.it number pair ∙ is scripts pair.client one.it here.client.is one.is))
         ((rw yielded.1 at does).step _ _ _ (yields_there number yielded.0 here)))))
 
     -- it does its next act, having yielded; or it stops in that
@@ -313,8 +303,7 @@ module _ {D : Type 0} {medium : Medium D} {scripts : List Declared} (number : �
         also_from (λ text o n step. then_also {other = λ _. Then (Asks (λ pair. clients.numbered number (kept pair))) (step_of number loud)}
         (λ a front rest mid yields acts.
         let found : clients.numbered number (kept mid) ≡ Some one.it =
-        ap (λ (m : Pair). clients.numbered number (kept m)) yields.1 ∙ yields_of (clients.numbered number) number pair (pends pair)
-        ∙ one.is in
+        rw yields.1 (yields_of (clients.numbered number) number pair (pends pair) ∙ one.is) in
         let next : next_of one.it mid ≡ Acts =
         ap (next_of one.it) yields.1 ∙ next_yielded one.it number pair ∙ is scripts pair.client one.it here.client.is one.is in
         looks {next = step_of number loud} (sym found) (looks {next = step_by number loud} (sym next) acts)) (regrouped step))
@@ -338,8 +327,7 @@ module _ {D : Type 0} {medium : Medium D} {scripts : List Declared} {u : Both D}
   pub aloud_by : {z : List ℕ} {result : Result (Unit {0}) Halt}
       → Does medium scripts (Goes (Repeats most (Steps number true)) (λ _. Closes (step_text number))) u v x z result
       → Does medium scripts (StepsAloud most which) u v x z result
-  aloud_by does = for_meant which {next = if_runs (aloud most)} is does.disks
-      (λ names c pair it here found same. rw same (does.step _ _ _ here))
+  aloud_by does = for_meant which is does.disks (λ names c pair it here found same. rw same (does.step _ _ _ here))
 
 -- ---- what becomes of one that is certified
 
@@ -378,8 +366,7 @@ module _ {pair n : Pair} {text : List ℕ} {b : Option (Unit {0})} (number : ℕ
       → certifies it pair text b n
   certified whole =
       then_also (λ a front rest mid yields second.
-      let here = subst (λ (m : Pair). Then (Then (Compares it) (noted it.number)) (unless_over (after_found (ended_of it m))) mid rest b n)
-      (sym yields.1) second in
+      let here = rw (← yields.1) at second in
       looks refl (then_also (λ what front rest last compares more. ends_noted (ended_of it mid) what more) (regrouped here)))
       (regrouped (looked
       {next = λ o. Then (certifying o) (unless_over (after_found (ended_of it (yield_if it.number (pends pair) pair))))} found
@@ -405,9 +392,7 @@ module _ {D : Type 0} {medium : Medium D} {scripts : List Declared} {u : Both D}
   pub not_ended : {y : List ℕ} → may_end_if_any (numbered number (state_in u.laptop).running)
       (live_numbered number (state_in u.laptop).running (live_in u.laptop)) ≡ false
       → KeepsDisks medium u u → y ≡ x ++ line (codes "not at end") → Does medium scripts (Ends which) u u x y (Err Over)
-  not_ended may keeps wrote =
-      for_meant which {next = if_runs (λ it. Then (Asks (next_of it)) (end_by it))} is keeps (λ names c pair it here found same.
-      asks_from refl (unended_at it (next_of it pair)
+  not_ended may keeps wrote = for_meant which is keeps (λ names c pair it here found same. asks_from refl (unended_at it (next_of it pair)
       ((may_end_is _ _ _ _ here.client.is.state number it found).1 may (is_first it.number pair.client)) (refuses_from wrote (still here))))
 
   module _ (over : IsDoneIn medium number u.laptop) where
@@ -417,8 +402,7 @@ module _ {D : Type 0} {medium : Medium D} {scripts : List Declared} {u : Both D}
         → clients.numbered number (kept pair) ≡ Some it → it.number ≡ number → DoesFrom medium scripts names c
         (Goes (Certifying number) (after_found (ended_of it (yield_if it.number (pends pair) pair)))) pair v x z result)
         → Does medium scripts (Ends which) u v x z result
-    certified_then keeps each =
-        for_meant which {next = if_runs (λ it. Then (Asks (next_of it)) (end_by it))} is keeps (λ names c pair it here found same.
+    certified_then keeps each = for_meant which is keeps (λ names c pair it here found same.
         asks_from refl (over_at it (next_of it pair) (over scripts pair.client it here.client.is found)
         (also_from (λ text o n step. certified number it found step) (each names c pair it here found same))))
 

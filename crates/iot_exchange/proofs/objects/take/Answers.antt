@@ -1,6 +1,6 @@
-use Rattle.iot_exchange.proofs.Common.{Bool, Ok, ap, sym, ◌∙◌}
+use Rattle.iot_exchange.proofs.Common.{sym, ◌∙◌}
 use Rattle.iot_exchange.proofs.DoesLaws.{answers, asks_then, goes_then, hands_on, no_memory, refuses}
-use Rattle.{iot_exchange.proofs.ExchangeLaws.pends_here, iot_exchange.proofs.ExchangeLaws.runs_here, iot_machine.specs.Transactions.took}
+use Rattle.{iot_exchange.proofs.ExchangeLaws.pends_here, iot_exchange.proofs.ExchangeLaws.runs_here}
 use Rattle.iot_exchange.proofs.objects.take.Goals as goal
 
 pub returns-then-runs : goal.returns-then-runs
@@ -20,13 +20,13 @@ returns-in_err-bring g c scripts =
 pub returns-then-not-branch : goal.returns-then-not-branch
 returns-then-not-branch g c scripts =
     asks_then (runs_here (sym c.runs.ensures ∙ c.if-runs.false)) (asks_then (pends_here (sym c.waits.ensures ∙ c.if-waits.false))
-    (goes_then {next = took} (c.in_ok-bring.was ∙ ap (λ (b : Bool). Ok b) c.if-not-branch.true) (c.bring.ensures.does scripts)
+    (goes_then (rw c.if-not-branch.true at c.in_ok-bring.was) (c.bring.ensures.does scripts)
     (refuses (c.bring.ensures.does scripts).disks c.in_ok-say-3.ensures)))
 
 pub returns : goal.returns
 returns g c scripts =
     asks_then (runs_here (sym c.runs.ensures ∙ c.if-runs.false)) (asks_then (pends_here (sym c.waits.ensures ∙ c.if-waits.false))
-    (goes_then {next = took} (c.in_ok-bring.was ∙ ap (λ (b : Bool). Ok b) c.if-not-branch.false) (c.bring.ensures.does scripts)
+    (goes_then (rw c.if-not-branch.false at c.in_ok-bring.was) (c.bring.ensures.does scripts)
     (answers (c.bring.ensures.does scripts).disks)))
 
 pub returns-in_err-say-3 : goal.returns-in_err-say-3

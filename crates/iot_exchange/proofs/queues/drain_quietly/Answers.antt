@@ -1,6 +1,5 @@
-use Rattle.iot_exchange.proofs.Common.{Answers, Asks, Some, Then, either, is_drained, sym, ◌∙◌}
+use Rattle.iot_exchange.proofs.Common.{sym, ◌∙◌}
 use Rattle.iot_exchange.proofs.DoesLaws.{answers, anyhow, asks_then, drained_is, goes_then, hands_on, ready_after, still}
-use Rattle.iot_exchange.specs.Words.{Refreshes}
 use Rattle.iot_exchange.proofs.queues.drain_quietly.Goals as goal
 
 pub returns-in_err-sync_all : goal.returns-in_err-sync_all
@@ -14,10 +13,10 @@ refresh-requires g c = (ready_after c.in_ok-sync_all.was c.sync_all.ensures c.re
 
 pub returns-then-not-is_drained : goal.returns-then-not-is_drained
 returns-then-not-is_drained g c =
-    goes_then {next = λ _. Then (Asks is_drained) (either Refreshes (Answers (Some tt)))} c.in_ok-sync_all.was c.sync_all.ensures
+    goes_then c.in_ok-sync_all.was c.sync_all.ensures
     (asks_then (drained_is (sym c.is_drained.ensures ∙ c.if-not-is_drained.true)) (answers c.sync_all.ensures.disks))
 
 pub returns : goal.returns
 returns g c =
-    goes_then {next = λ _. Then (Asks is_drained) (either Refreshes (Answers (Some tt)))} c.in_ok-sync_all.was c.sync_all.ensures
+    goes_then c.in_ok-sync_all.was c.sync_all.ensures
     (asks_then (drained_is (sym c.is_drained.ensures ∙ c.if-not-is_drained.false)) (c.refresh.ensures _))

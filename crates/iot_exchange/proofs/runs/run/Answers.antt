@@ -1,6 +1,6 @@
-use Rattle.iot_exchange.proofs.Common.{Goes, refl, runs_through, script_of, sym, ◌∙◌}
+use Rattle.iot_exchange.proofs.Common.{refl, sym, ◌∙◌}
 use Rattle.iot_exchange.proofs.DoesLaws.{answers, asks_then, goes_then, hands_on, ready_after, refuses, up_is}
-use Rattle.iot_exchange.{proofs.ExchangeLaws.full_here, specs.Words.Begins}
+use Rattle.iot_exchange.{proofs.ExchangeLaws.full_here}
 use Rattle.iot_exchange.proofs.runs.run.Goals as goal
 
 pub returns-then-is_full : goal.returns-then-is_full
@@ -11,8 +11,7 @@ pub returns-then-not-is_connected : goal.returns-then-not-is_connected
 returns-then-not-is_connected g c option means =
     asks_then (full_here (sym c.is_full.ensures ∙ c.if-is_full.false))
     (asks_then (up_is (sym c.is_connected.ensures ∙ c.if-not-is_connected.true))
-    (goes_then {next = λ _. Goes (Begins (script_of c.args.script.now) option) runs_through} refl
-    (answers c.requires.ready.ready.keeps) (c.run_script.ensures option means)))
+    (goes_then refl (answers c.requires.ready.ready.keeps) (c.run_script.ensures option means)))
 
 pub returns-in_err-sync_all : goal.returns-in_err-sync_all
 returns-in_err-sync_all g c option means =
@@ -27,5 +26,4 @@ pub returns : goal.returns
 returns g c option means =
     asks_then (full_here (sym c.is_full.ensures ∙ c.if-is_full.false))
     (asks_then (up_is (sym c.is_connected.ensures ∙ c.if-not-is_connected.false))
-    (goes_then {next = λ _. Goes (Begins (script_of c.args.script.now) option) runs_through} c.in_ok-sync_all.was c.sync_all.ensures
-    (c.run_script-2.ensures option means)))
+    (goes_then c.in_ok-sync_all.was c.sync_all.ensures (c.run_script-2.ensures option means)))

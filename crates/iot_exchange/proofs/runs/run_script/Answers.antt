@@ -1,4 +1,4 @@
-use Rattle.iot_exchange.proofs.{Common.Ends, Common.Some, Common.runs_through, DoesLaws.goes_then, DoesLaws.hands_on, DoesLaws.ready_after}
+use Rattle.iot_exchange.proofs.{Common.runs_through, DoesLaws.goes_then, DoesLaws.hands_on, DoesLaws.ready_after}
 use Rattle.iot_exchange.proofs.runs.run_script.Goals as goal
 
 pub returns-in_err-number : goal.returns-in_err-number
@@ -19,5 +19,4 @@ end-requires g c = ready_after c.in_ok-steps.was (c.steps.ensures _) (ready_afte
 
 pub returns : goal.returns
 returns g c option means =
-    goes_then {next = runs_through} c.in_ok-number.was (c.begin.ensures _ option means)
-    (goes_then {next = λ _. Ends (Some c.in_ok-number.number)} c.in_ok-steps.was (c.steps.ensures _) c.end.ensures)
+    goes_then c.in_ok-number.was (c.begin.ensures _ option means) (goes_then c.in_ok-steps.was (c.steps.ensures _) c.end.ensures)

@@ -1,7 +1,6 @@
-use Rattle.iot_exchange.proofs.Common.{Closes, Transaction, ap, begin_line, option_copied, option_map, refl, sym, transaction_name, ◌++◌}
+use Rattle.iot_exchange.proofs.Common.{Transaction, ap, begin_line, option_copied, option_map, refl, sym, transaction_name, ◌++◌}
 use Rattle.iot_exchange.proofs.{Common.◌∙◌, DoesLaws.goes_then, DoesLaws.hands_on, DoesLaws.ready_after, DoesLaws.tells}
 use Rattle.iot_exchange.proofs.TransactionsLaws.{begun_said, lent_run, none_said}
-use Rattle.iot_machine.specs.Events.{begin_text}
 use Rattle.iot_exchange.proofs.transactions.begin_aloud.Goals as goal
 
 pub returns-in_err-number : goal.returns-in_err-number
@@ -14,7 +13,7 @@ run-requires g c = (ready_after c.in_ok-number.was
 
 pub returns-in_ok-say_begin-in-Some : goal.returns-in_ok-say_begin-in-Some
 returns-in_ok-say_begin-in-Some g c scripts on_conflict means =
-    goes_then {next = λ number. Closes (begin_text number)} c.in_ok-number.was (c.begin.ensures scripts on_conflict means)
+    goes_then c.in_ok-number.was (c.begin.ensures scripts on_conflict means)
     (tells (c.begin.ensures scripts on_conflict means).disks (λ names at pair here.
     begun_said here.client.is c.in_ok-number.number c.begin.new.out c.say_begin.new.out _
     (lent_run c.run.ensures.running c.in-Some.is) c.in-Some.running.now.first
@@ -25,6 +24,6 @@ returns-in_ok-say_begin-in-Some g c scripts on_conflict means =
 
 pub returns-in-None : goal.returns-in-None
 returns-in-None g c scripts on_conflict means =
-    goes_then {next = λ number. Closes (begin_text number)} c.in_ok-number.was (c.begin.ensures scripts on_conflict means)
+    goes_then c.in_ok-number.was (c.begin.ensures scripts on_conflict means)
     (tells (c.begin.ensures scripts on_conflict means).disks (λ names at pair here.
     none_said here.client.is c.in_ok-number.number c.begin.new.out c.begin.new.out _ (lent_run c.run.ensures.running c.in-None.is) refl))

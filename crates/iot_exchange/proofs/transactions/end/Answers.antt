@@ -1,13 +1,12 @@
-use Rattle.iot_exchange.proofs.Common.{Asks, Certified, KeepsTrails, Ok}
-use Rattle.iot_exchange.proofs.Common.{Then, Transaction, again_line, ap, compared_if, end_by, if_runs, name_of, next_of, sym, ◌++◌, ◌∙◌}
+use Rattle.iot_exchange.proofs.Common.{Certified, KeepsTrails, Ok}
+use Rattle.iot_exchange.proofs.Common.{Transaction, again_line, ap, compared_if, name_of, sym, ◌++◌, ◌∙◌}
 use Rattle.iot_exchange.proofs.DoesLaws.{asks_then, by_client, certifies_one, hands_on, keeps_more, no_memory, ready_after, refuses}
 use Rattle.iot_exchange.proofs.TransactionsLaws.{certified_then, end_again, end_joined, none_meant, not_ended, trails_found}
 use Rattle.iot_exchange.proofs.transactions.end.Goals as goal
 
 pub returns-in_default : goal.returns-in_default
 returns-in_default g c =
-    asks_then {next = if_runs (λ it. Then (Asks (next_of it)) (end_by it))}
-    (none_meant c.args.which (sym c.meant.ensures ∙ c.in_default.is)) (refuses c.requires.ready.keeps c.in_ok-say.ensures)
+    asks_then (none_meant c.args.which (sym c.meant.ensures ∙ c.in_default.is)) (refuses c.requires.ready.keeps c.in_ok-say.ensures)
 
 pub returns-then-not-may_end : goal.returns-then-not-may_end
 returns-then-not-may_end g c =

@@ -1,6 +1,5 @@
-use Rattle.iot_exchange.proofs.Common.{Ok, ap, ended_as, synced_by, ◌∙◌}
+use Rattle.iot_exchange.proofs.Common.{ap, synced_by}
 use Rattle.iot_exchange.proofs.{DoesLaws.answers, DoesLaws.goes_then, DoesLaws.hands_on, DoesLaws.tells, TransactionsLaws.ends_aloud}
-use Rattle.{iot_exchange.specs.declared.synced.Synced.Synced, iot_machine.specs.Transactions.waits_unless}
 use Rattle.iot_exchange.proofs.transactions.join.Goals as goal
 
 pub returns-then-not-gone : goal.returns-then-not-gone
@@ -16,18 +15,15 @@ returns-in_err-sync g c =
 pub returns-in_ok-say_pending-in-Unanswered : goal.returns-in_ok-say_pending-in-Unanswered
 returns-in_ok-say_pending-in-Unanswered g c =
     ends_aloud c.args.gone.now c.requires.ready.keeps c.in_ok-say_of.ensures c.if-not-gone.false
-    (goes_then {next = waits_unless (ended_as c.args.gone.now)}
-    (ap synced_by (c.in_ok-sync.was ∙ ap (λ (how : Synced). Ok how) c.in-Unanswered.is)) c.sync.ensures
+    (goes_then (ap synced_by (rw c.in-Unanswered.is at c.in_ok-sync.was)) c.sync.ensures
     (tells c.sync.ensures.disks (λ names at pair here. c.in_ok-say_pending-in-Unanswered.ensures)))
 
 pub returns-in-Moved : goal.returns-in-Moved
 returns-in-Moved g c =
     ends_aloud c.args.gone.now c.requires.ready.keeps c.in_ok-say_of.ensures c.if-not-gone.false
-    (goes_then {next = waits_unless (ended_as c.args.gone.now)}
-    (ap synced_by (c.in_ok-sync.was ∙ ap (λ (how : Synced). Ok how) c.in-Moved.is)) c.sync.ensures (answers c.sync.ensures.disks))
+    (goes_then (ap synced_by (rw c.in-Moved.is at c.in_ok-sync.was)) c.sync.ensures (answers c.sync.ensures.disks))
 
 pub returns-in-Stays : goal.returns-in-Stays
 returns-in-Stays g c =
     ends_aloud c.args.gone.now c.requires.ready.keeps c.in_ok-say_of.ensures c.if-not-gone.false
-    (goes_then {next = waits_unless (ended_as c.args.gone.now)}
-    (ap synced_by (c.in_ok-sync.was ∙ ap (λ (how : Synced). Ok how) c.in-Stays.is)) c.sync.ensures (answers c.sync.ensures.disks))
+    (goes_then (ap synced_by (rw c.in-Stays.is at c.in_ok-sync.was)) c.sync.ensures (answers c.sync.ensures.disks))

@@ -1,4 +1,4 @@
-use Rattle.iot_exchange.proofs.Common.{Ok, Step, act_once, ap, fetched, refl, true, ◌∙◌}
+use Rattle.iot_exchange.proofs.Common.{Ok, Step, act_once, ap, refl, true, ◌∙◌}
 use Rattle.iot_exchange.proofs.DoesLaws.{answers, by_client, goes_then, hands_on, keeps_more, keeps_then, no_memory, ready_by, then_answers}
 use Rattle.iot_exchange.proofs.{DoesLaws.yields_then, TransactionsLaws.acts_by}
 use Rattle.iot_exchange.proofs.TransactionsLaws.{fetched_loud, fetched_quiet, lent_run, step_halted, steps_by, steps_none, yields_there}
@@ -18,10 +18,9 @@ returns-in_err-step g c scripts =
 pub returns-in-Acted : goal.returns-in-Acted
 returns-in-Acted g c scripts =
     let was = c.in_ok-step.was ∙ ap (λ (s : Step). Ok s) c.in-Acted.is in
-    let did = rw was at c.step.ensures.does in
     acts_by c.args.number c.args.loud (lent_run c.run.ensures.running c.in-Some.is) (rw was at c.step.ensures.next)
     (then_answers {f = λ _. true} refl refl (by_client (yields_then c.args.number (act_once c.args.number)) c.requires.keeps
-    c.step.ensures.place (rw was at c.step.ensures.trails) (did scripts) c.step.ensures.disk))
+    c.step.ensures.place (rw was at c.step.ensures.trails) ((rw was at c.step.ensures.does) scripts) c.step.ensures.disk))
 
 pub returns-in-AtEnd : goal.returns-in-AtEnd
 returns-in-AtEnd g c scripts =
@@ -49,10 +48,9 @@ pub returns-in_err-came-in-Fetch : goal.returns-in_err-came-in-Fetch
 returns-in_err-came-in-Fetch g c scripts =
     let was = c.in_ok-step.was ∙ ap (λ (s : Step). Ok s) c.in-Fetch.is in
     let asks = rw was at c.step.ensures.does in
-    let does = c.fetch.ensures (wanted.Path c.in-Fetch.path) asks.2 scripts in
     steps_by c.args.number c.args.loud (lent_run c.run.ensures.running c.in-Some.is)
     (rw was at c.step.ensures.next) (asks.0, asks.1) c.requires.keeps c.step.ensures.disk
-    (hands_on c.in_err-came-in-Fetch.was c.from_residual-in_err-came-in-Fetch.ensures.1 does)
+    (hands_on c.in_err-came-in-Fetch.was c.from_residual-in_err-came-in-Fetch.ensures.1 (c.fetch.ensures _ asks.2 scripts))
 
 pub returns-then-not-loud : goal.returns-then-not-loud
 returns-then-not-loud g c scripts =
@@ -61,8 +59,7 @@ returns-then-not-loud g c scripts =
     let does = c.fetch.ensures (wanted.Path c.in-Fetch.path) asks.2 scripts in
     steps_by c.args.number c.args.loud (lent_run c.run.ensures.running c.in-Some.is)
     (rw was at c.step.ensures.next) (asks.0, asks.1) c.requires.keeps c.step.ensures.disk
-    (goes_then {next = fetched c.args.loud c.in-Fetch.path} c.in_ok-came-in-Fetch.was does
-    (fetched_quiet c.in-Fetch.path does.disks c.in_ok-came-in-Fetch.came c.if-not-loud.true))
+    (goes_then c.in_ok-came-in-Fetch.was does (fetched_quiet c.in-Fetch.path does.disks c.in_ok-came-in-Fetch.came c.if-not-loud.true))
 
 pub returns-in_ok-say_fetch-in-Fetch : goal.returns-in_ok-say_fetch-in-Fetch
 returns-in_ok-say_fetch-in-Fetch g c scripts =
@@ -71,8 +68,8 @@ returns-in_ok-say_fetch-in-Fetch g c scripts =
     let does = c.fetch.ensures (wanted.Path c.in-Fetch.path) asks.2 scripts in
     steps_by c.args.number c.args.loud (lent_run c.run.ensures.running c.in-Some.is)
     (rw was at c.step.ensures.next) (asks.0, asks.1) c.requires.keeps c.step.ensures.disk
-    (goes_then {next = fetched c.args.loud c.in-Fetch.path} c.in_ok-came-in-Fetch.was does
-    (fetched_loud c.in-Fetch.path does.disks c.in_ok-came-in-Fetch.came c.if-not-loud.false c.in_ok-say_fetch-in-Fetch.ensures))
+    (goes_then c.in_ok-came-in-Fetch.was does
+    (fetched_loud c.in-Fetch.path does.disks _ c.if-not-loud.false c.in_ok-say_fetch-in-Fetch.ensures))
 
 pub returns-in_err-say_fetch-in-Fetch : goal.returns-in_err-say_fetch-in-Fetch
 returns-in_err-say_fetch-in-Fetch g c scripts =

@@ -1,12 +1,11 @@
-use Rattle.iot_exchange.proofs.Common.{if_runs, place_said, refl, step_line, sym, transaction_name, ◌++◌, ◌∙◌}
+use Rattle.iot_exchange.proofs.Common.{place_said, refl, step_line, sym, transaction_name, ◌++◌, ◌∙◌}
 use Rattle.iot_exchange.proofs.DoesLaws.{asks_then, hands_on, no_memory, ready_after, refuses, then_tells}
-use Rattle.iot_exchange.proofs.TransactionsLaws.{aloud, aloud_by, lent_run, none_meant, none_said, stepped_said}
+use Rattle.iot_exchange.proofs.TransactionsLaws.{aloud_by, lent_run, none_meant, none_said, stepped_said}
 use Rattle.iot_exchange.proofs.transactions.step_aloud.Goals as goal
 
 pub returns-in_default : goal.returns-in_default
 returns-in_default g c scripts =
-    asks_then {next = if_runs (aloud c.args.most)} (none_meant c.args.which (sym c.meant.ensures ∙ c.in_default.is))
-    (refuses c.requires.keeps c.in_ok-say.ensures)
+    asks_then (none_meant c.args.which (sym c.meant.ensures ∙ c.in_default.is)) (refuses c.requires.keeps c.in_ok-say.ensures)
 
 pub returns-in_err-steps : goal.returns-in_err-steps
 returns-in_err-steps g c scripts =
