@@ -22,15 +22,13 @@ allowed_first : {D : Type 0} (event : Event) (later : List Event) (world : World
     → IsAllowed event (client_count world) (script_names world)
 allowed_first (events.Client name) later world declared = declared.0
 allowed_first (events.Script name code) later world declared = declared.1
-allowed_first (events.At client what) later world declared =
-    (declared.0, may_befall what (length (script_names world)) declared.1)
+allowed_first (events.At client what) later world declared = (declared.0, may_befall what _ declared.1)
 allowed_first event later world declared = tt
 
 -- events that are declared after nothing are declared in a world that has nothing
 pub declared_new : {D : Type 0} (world : World D) → client_count world ≡ 0 → script_names world ≡ []
     → (events : List Event) → AreDeclared events 0 [] → DeclaredOn events world
-declared_new world no_clients no_scripts events declared =
-    rw (no_clients, no_scripts) declared
+declared_new world no_clients no_scripts events declared = rw (no_clients, no_scripts) declared
 
 -- what is left of a list behind so many is the next one and what is behind it
 pub next_is : {A : Type 0} (xs : List A) (done : ℕ) (x : A) → done < length xs → x ≡ slice_index_or xs done x

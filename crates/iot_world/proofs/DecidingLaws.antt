@@ -30,8 +30,7 @@ module _ {D : Type 0} (medium : Medium D) where
           → DecidesPost records_in medium.may_leave post (words_of Restart laptop.name) laptop.name x y
       by (Down fallen) is =
           let it = came (ap (λ (p : Post (Seated D) D). is_fallen p) is) some.scripts some.machine some.stands in
-          subst (λ (p : Post (Seated D) D). DecidesPost records_in medium.may_leave p (words_of Restart laptop.name) laptop.name x y) is
-          (decides_post (seating medium laptop.place) medium records_in (λ (bytes : List ℕ). bytes) many_there
+          rw is at (decides_post (seating medium laptop.place) medium records_in (λ (bytes : List ℕ). bytes) many_there
           (λ bytes n before. many_there bytes (next n)) (words_of Restart laptop.name) laptop.name x it.mid y it.rest it.whole
           medium.may_leave (λ disk image left. left) laptop.post it.on some.machine.node it.came it.stopped)
       by post is = tt

@@ -18,7 +18,7 @@ use Rattle.iot_world.proofs.Common.{MakesStep, Medium, None, Ok, OnOk, Opens, Re
 use Rattle.iot_world.proofs.Common.{Some, StandsFor, StandsIn, StepsTo, Vec, World, ap, append-nil, arith, at_each, client_at, client_count}
 use Rattle.iot_world.proofs.Common.{client_in, counts_on, disk_in, disk_of, does, drop, event_part, false, follows_kept, is_some}
 use Rattle.iot_world.proofs.Common.{length, length-append, length-map, map, map-append, names_in, no_client, on_both, or_parts, paired}
-use Rattle.iot_world.proofs.Common.{placed, quiet, refl, rules, script_names, server_name, slice_index_or, stamps_in, subst, suc, sym, take}
+use Rattle.iot_world.proofs.Common.{placed, quiet, refl, rules, script_names, server_name, stamps_in, subst, suc, sym, take}
 use Rattle.iot_world.proofs.Common.{true, vec_capacity, vec_len, with_clients, with_ends, with_server, ℕ, [], ◌++◌, ◌+◌, ◌∙◌, ◌∷◌, ◌≡◌, ◌≤◌}
 use Rattle.iot_world.proofs.DisksLaws.{arms_with, clients_same, first_kept, pushed_with, server_same, unarmed_same}
 use Rattle.iot_world.proofs.{ListLaws.all_split, ListLaws.each_map, ListLaws.each_place_push, PlacesLaws.ServerFollows}
@@ -80,11 +80,8 @@ before_is : (first last : Counts) (others : List Counts) → length others ≡ 8
     → handed (with_ends first last others) ≡ at_first first last others
 before_is first last others eight =
     let nine : 9 ≡ suc (length others) = omega (arith, eight) in
-    let tenth : last_of (with_ends first last others) ≡ last =
-    ap (λ (n : ℕ). slice_index_or (with_ends first last others) n no_counts) nine
-    ∙ get_or-append_seam others last [] no_counts in
-    let spare : take 8 (others ++ last ∷ []) ≡ others =
-    ap (λ (n : ℕ). take n (others ++ last ∷ [])) (sym eight) ∙ take-append_seam others (last ∷ []) in
+    let tenth : last_of (with_ends first last others) ≡ last = rw nine (get_or-append_seam others last [] no_counts) in
+    let spare : take 8 (others ++ last ∷ []) ≡ others = rw (← eight) (take-append_seam others (last ∷ [])) in
     λ i. at_first first (tenth i) (spare i)
 
 -- ---- a new world
@@ -106,9 +103,7 @@ module _ {D : Type 0} (medium : Medium D) (disks : List D) (first last : D) (res
 
   pub handed_are : handed (map (counts_on medium) disks) ≡ at_first counts.0 counts.1 (map (counts_on medium) rest)
   handed_are =
-      ap (λ (ds : List D). handed (map (counts_on medium) ds)) split
-      ∙ ap (λ (cs : List Counts). handed (counts.0 ∷ cs)) (map-append (counts_on medium) rest (last ∷ []))
-      ∙ before_is counts.0 counts.1 (map (counts_on medium) rest) (length-map rest (counts_on medium) ∙ eight_left)
+      rw (split, map-append (counts_on medium) rest (last ∷ [])) (before_is _ _ _ (length-map rest (counts_on medium) ∙ eight_left))
 
   -- a world of its server alone
   pub opens : (world : World D) (was : ServerNode D) (x y : List ℕ) (on : Bool)
@@ -120,8 +115,7 @@ module _ {D : Type 0} (medium : Medium D) (disks : List D) (first last : D) (res
   opens world was x y on stands beside one clients scripts spare room =
       let s = one.step (unopened [] (paired counts.0 counts.1)) stands in
       let m : Machine = record (at_first counts.0 counts.1 (map (counts_on medium) rest)) { server = s.1 } in
-      let step : Opening (handed (map (counts_on medium) disks)) s.0 tt m =
-      subst (λ (start : Machine). Opening start s.0 tt m) (sym handed_are) (record {
+      let step : Opening (handed (map (counts_on medium) disks)) s.0 tt m = rw handed_are (record {
         mid = m;
         front = s.0;
         rest = [];
@@ -193,8 +187,7 @@ module _ {D : Type 0} (medium : Medium D) (disks : List D) (first last : D) (res
         → GivesBack medium disks back
     gives_back is_image back promoted one other is put stands commits =
         let begins : ServerBegins medium false [] follows.now.placed.first follows.now.placed.last =
-        begins_there medium is_image [] now follows.now
-        (commits.keeps [] (unopened [] (paired counts.0 counts.1)) 0 stands) in
+        begins_there medium is_image [] now follows.now (commits.keeps [] (unopened [] (paired counts.0 counts.1)) 0 stands) in
         record {
           was = ends;
           now = record {
@@ -239,8 +232,7 @@ module _ {D : Type 0} (medium : Medium D) (name : List ℕ) (old : World D) (cli
     };
     same = arms_with medium old joined (server_same medium old some)
         (rw (push, spare, pushed_with old.clients.items next rest.items)
-        (clients_same medium old.clients.items _ _ (first_kept medium (Some disk) (disk_in next) rest.items rest.items (rw had at keeps)
-        (unarmed_same medium rest.items))))
+        (clients_same medium old.clients.items _ _ (first_kept medium _ (disk_in next) _ _ (rw had at keeps) (unarmed_same medium _))))
         (omega (arith, ap length spare));
   }
 
@@ -256,16 +248,12 @@ module _ {D : Type 0} (medium : Medium D) (name : List ℕ) (old : World D) (cli
       stands : (k : machine.Client) → ClientStands medium m.scripts next k → k.name ≡ name → KeepsTrails was next
           → StandsFor medium joined (record (add_client name m) { clients = m.clients ++ k ∷ [] })
       stands k started called trails =
-          let server = subst (λ (names : List (List ℕ)). ServerStands medium names old.server m.server m.requests)
-          (sym (map-append (λ (k : machine.Client). k.name) m.clients (k ∷ [])))
-          (rw called (more_names medium (names_in m) name old.server m.server m.requests here.server)) in
-          let follows =
-          follows_kept (stamps_in was) (stamps_in next) m.server.durable trails (rw empty (follows_nothing m.server.durable)) in
+          let server = rw (← called, ← map-append (λ (k : machine.Client). k.name) m.clients (k ∷ [])) at
+          (more_names medium (names_in m) name old.server m.server m.requests here.server) in
           let clients_ : Each (StandsIn medium m.scripts m.server.durable) clients.items (m.clients ++ k ∷ []) =
           rw push (all_zipped_more (StandsIn medium m.scripts m.server.durable) old.clients.items m.clients next k here.clients_
-          (record { client = started; follows = follows })) in
-          let placed = subst ArePlaced (sym push)
-          (each_place_push (λ n (l : Laptop D). l.place ≡ n) old.clients.items next here.placed (stays ∙ knows)) in
+          (record { client = started; follows = follows_kept (stamps_in was) _ _ trails (rw empty (follows_nothing m.server.durable)) })) in
+          let placed : ArePlaced clients.items = rw push (each_place_push _ _ next here.placed (stays ∙ knows)) in
           let empty = (subst (AllByRecursion (IsEmpty medium)) spare here.spare).1 in
           let counts = ap (drop 1) counts_are in
           let eight : length clients.items + length rest.items ≡ 8 = omega (arith, here.eight, ap length spare, one_more) in
@@ -278,19 +266,14 @@ module _ {D : Type 0} (medium : Medium D) (name : List ℕ) (old : World D) (cli
         let m' : Machine = add_client name m in
         let is : client_in m' c ≡ client_of name m = get_or-append_seam m.clients (client_of name m) [] no_client in
         let called = ap (λ (k : machine.Client). k.name) is in
-        let there : ClientStands medium m.scripts was (client_in m' c) =
-        subst (ClientStands medium m.scripts was)
-        (ap (λ (cs : List Counts). unopened_laptop name (first_of cs)) (counts_are m here) ∙ sym is)
-        (fallen (unopened m.scripts)) in
+        let there : ClientStands medium m.scripts was (client_in m' c) = rw (is, ← counts_are m here) (fallen (unopened m.scripts)) in
         let s = (starts.opens m.scripts).step (client_in m' c) there in
         let now : StandsFor medium joined ((client_at c).set s.1 m') =
-        subst (λ (ks : List machine.Client). StandsFor medium joined (record m' { clients = ks }))
-        (sym (set-append_seam m.clients (client_of name m) [] s.1))
+        rw (set-append_seam m.clients (client_of name m) [] s.1)
         (stands m here s.1 s.4 ((opens_keeps name).at (client_in m' c) s.1 s.0 starts.on called s.3) starts.trails) in
-        let opens = subst (λ (k : List ℕ). OpensNode k (client_in m' c).node s.0 starts.on s.3.inner) called s.3.step in
         one_then (quiet {P = Any} {v = old} m' (refl, refl, refl) tt)
         (one_then (at_part {Q = StandsFor medium} {w = joined} (client_at c) s.0 s.1 s.2
-        (record { inner = s.3.inner; step = opens; is = s.3.is }) now)
+        (record { inner = s.3.inner; step = rw called at s.3.step; is = s.3.is }) now)
         (at_one (then_says starts.on starts.says) now)))
       where
         then_says : (on : Bool) → SaysStarted on name starts.between y
@@ -306,12 +289,8 @@ module _ {D : Type 0} (medium : Medium D) where
       → MakesStep medium (event_part (events.Script name code)) old (record old { scripts = scripts }) x x tt
   declares_script name code old scripts x none adds = does (λ m here.
       let both = clients_more medium m.scripts one m.server.durable old.clients.items m.clients here.clients_ in
-      let all : m.scripts ++ one ∷ [] ≡ exchange.scripts_of scripts.items =
-      ap (λ (ss : List Declared). ss ++ one ∷ []) here.scripts
-      ∙ sym (map-append exchange.script_of old.scripts.items (record { name = name; script = code } ∷ []))
-      ∙ ap (λ (ss : List DeclaredScript). exchange.scripts_of ss) (sym adds) in
-      let apart =
-      apart_more m.scripts one here.apart (ap (script_named name) here.scripts ∙ undeclared old.scripts.items name none) in
+      let all : m.scripts ++ one ∷ [] ≡ exchange.scripts_of scripts.items = rw (here.scripts, adds, map-append) in
+      let apart = apart_more m.scripts one here.apart (ap (script_named name) here.scripts ∙ undeclared old.scripts.items name none) in
       (sym (append-nil x), search rules))
     where
       one : Declared

@@ -5,7 +5,7 @@ use Rattle.iot_world.proofs.Common.{KeepsBeside, KeepsCommits, KeepsDisk, KeepsD
 use Rattle.iot_world.proofs.Common.{List, Machine, MakesStep, Medium, None, Ok, Option, Result, SameArms, ServerNode, Some, StandsFor}
 use Rattle.iot_world.proofs.Common.{Vec, World, ap, arith, commits_same, disk_in, disk_of, disks_of, false, inl, is_promoted, is_some}
 use Rattle.iot_world.proofs.Common.{length, length-append, length-set, on_both, refl, same_Some, slice_get, slice_index_or, slice_set}
-use Rattle.iot_world.proofs.Common.{subst, suc, sym, true, with_clients, with_first, zero, ℕ, [], ◌++◌, ◌+◌, ◌<◌, ◌∙◌, ◌∷◌, ◌≡◌, ◌≤◌}
+use Rattle.iot_world.proofs.Common.{suc, sym, true, with_clients, with_first, zero, ℕ, [], ◌++◌, ◌+◌, ◌<◌, ◌∙◌, ◌∷◌, ◌≡◌, ◌≤◌}
 use Rattle.iot_world.proofs.ListLaws.{all_split, looked_up}
 use Rattle.iot_world.proofs.PlacesLaws.{ServerFollows, has_places, kept_server, places_list, promoted_is, same_server, server_placed}
 use Rattle.iot_world.specs.{Disks.IsUnarmed, World.AreLast, World.UnlessArmed}
@@ -114,11 +114,9 @@ module _ {D : Type 0} (medium : Medium D) where
     server_keeps server kept keeps commits =
         let still = kept m.promoted m.beside beside in
         record {
-          follows = kept_server medium old.server server m.promoted m.beside
-              (server_placed medium old.server m.promoted m.beside beside) still keeps;
+          follows = kept_server medium old.server server _ _ (server_placed medium old.server _ _ beside) still keeps;
           commits = commits;
-          stays = λ no.
-              promoted_is medium server m.promoted m.beside still ∙ sym (promoted_is medium old.server m.promoted m.beside beside);
+          stays = λ no. promoted_is medium _ _ _ still ∙ sym (promoted_is medium _ _ _ beside);
         }
 
     -- or nothing
@@ -162,13 +160,11 @@ module _ {D : Type 0} (medium : Medium D) where
 
     have : (LaptopHasDisk was → LaptopHasDisk now) → AllByRecursion LaptopHasDisk old.clients.items
         → AllByRecursion LaptopHasDisk clients.items
-    have then_ had = rw put (all_set LaptopHasDisk old.clients.items c now was
-        (λ had. then_ (subst (λ (one : Laptop _). LaptopHasDisk one) (sym value) had)) had)
+    have then_ had = rw put (all_set LaptopHasDisk old.clients.items c now was (λ had. then_ (rw value had)) had)
 
     pub client_leaves : {T E : Type 0} (arms : Bool) (r : Result T E) → KeepsNode medium arms r was now
         → LeavesDisks medium arms 0 false r old other
-    client_leaves true (Ok done) then_ =
-        record { kept = has_still old other refl many (have then_) keeps.follows.now; same = tt }
+    client_leaves true (Ok done) then_ = record { kept = has_still old other refl many (have then_) keeps.follows.now; same = tt }
     client_leaves arms r kept =
         leaves old other refl many (have (λ had. ap is_some kept.new_has)) r keeps
         (rw put (clients_put old.clients.items c was now old.spare.items (looked_up _ _ _ _ refl inside value) kept))
@@ -186,16 +182,14 @@ module _ {D : Type 0} (medium : Medium D) where
     armed_leaves (Ok done) call x y a some step same =
         let it = step.step some.machine some.stands.stands in
         record { kept = has_still old _ refl refl (λ had. had) (stands_placed _ it.1 it.4); same = tt }
-    armed_leaves (Err fault) call x y a some step same =
-        server_leaves (Err fault) (subst (ServerKeeps false old.server) (sym same) (server_same old some))
+    armed_leaves (Err fault) call x y a some step same = server_leaves (Err fault) (rw same (server_same old some))
 
   -- nothing was done to a node
   pub nothing_leaves : {T E : Type 0} {arms turns : Bool} {joins : ℕ} (r : Result T E) (old new : World D) → IsWorldOfSome medium old
       → new.server ≡ old.server → new.clients.items ≡ old.clients.items → new.spare ≡ old.spare
       → LeavesDisks medium arms joins turns r old new
   nothing_leaves r old new some server clients spare =
-      leaves old new spare (ap length clients) (λ had. rw clients had) r (rw server (server_same old some))
-      (rw clients (unarmed_same _))
+      leaves old new spare (ap length clients) (λ had. rw clients had) r (rw server (server_same old some)) (rw clients (unarmed_same _))
 
 -- ---- the disks that a world gives back
 

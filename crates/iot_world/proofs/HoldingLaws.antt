@@ -8,7 +8,7 @@ use Rattle.iot_server_node.proofs.{BeginningLaws.image_goes_on, BeginningLaws.ow
 use Rattle.iot_server_node.specs.Disks.{IsPlaced, MayLeave, own_of}
 use Rattle.iot_standing.specs.Kept.{RunKept, StateKept}
 use Rattle.iot_world.proofs.BeginsLaws.{begins_there, last_begins, lone, pair_of, pairs_begin}
-use Rattle.iot_world.proofs.Common.{Between, Bool, Call, Client, ClientStands, ClientState, Commit, Counts, Declared, Disks, Down}
+use Rattle.iot_world.proofs.Common.{Between, Bool, Call, Client, ClientStands, ClientState, Commit, Counts, Declared, Down}
 use Rattle.iot_world.proofs.Common.{Each, Err, IfErr, Image, IsClientImage, IsOneMoreIfAny, KeepsDisks, KeepsNode, Laptop, List, Machine}
 use Rattle.iot_world.proofs.Common.{Medium, Node, None, Ok, OnOk, Opens, Option, Post, PostStands, Refines, Result, SameArms, ServerBegins}
 use Rattle.iot_world.proofs.Common.{Some, StandsAnyhow, StandsFor, StandsIn, State, Up, World, ap, arith, counts_on, disk_in, disks_of}
@@ -154,12 +154,9 @@ module _ {D : Type 0} (medium : Medium D) where
         → ((image : Image) → MayLeave medium (placed promoted first last) image → Either doubt image)
         → HoldsServer promoted (medium.may_leave first) (medium.may_leave last) node.durable doubt
     hold_server false first last None each = (
-      λ one left.
-          is_listed node.durable one count
-          (settled (each (pair_of one (medium.reads last)) (record { disk = left; backup = is_image last }))).disk,
+      λ one left. is_listed _ _ _ (settled (each (pair_of one (medium.reads last)) (record { disk = left; backup = is_image last }))).disk,
       λ other left.
-          is_listed node.durable other count
-          (settled (each (pair_of (medium.reads first) other) (record { disk = is_image first; backup = left }))).backup,
+          is_listed _ _ _ (settled (each (pair_of (medium.reads first) other) (record { disk = is_image first; backup = left }))).backup,
     )
     hold_server false first last (Some after) each =
         λ one other there here. elim (in_doubt (each (pair_of one other) (record { disk = there; backup = here }))) [
@@ -203,16 +200,14 @@ module _ {D : Type 0} (medium : Medium D) where
     server_held is_image =
         let it = lasts medium (names_in m) world.server m.server m.requests here.server in
         let same : it.disk ≡ placed m.promoted two.first two.last = same_Some _ _ (sym it.has ∙ two.has) in
-        hold_server is_image it.count m.server m.promoted two.first two.last m.server.doubt
-        (λ image left. it.each.each image (subst (λ (disks : Disks D). MayLeave medium disks image) (sym same) left))
+        hold_server is_image it.count m.server m.promoted two.first two.last m.server.doubt (λ image left. it.each.each _ (rw same left))
 
     -- and have counted this
     both_counted : m.server.counts
         ≡ paired (counts_on medium (own_of m.promoted two.first two.last)) (counts_on medium (other_of m.promoted two.first two.last))
     both_counted =
-        sym (same_Some _ _ (subst (λ (o : Option (Disks D)). CountsOn (on_both medium) o m.server.counts) two.has
-        (counted (lists medium) (on_both medium) (kept_text (names_in m)) world.server.post m.server here.server.post)))
-        ∙ counts_placed m.promoted two.first two.last
+        let own = counted (lists medium) (on_both medium) (kept_text (names_in m)) world.server.post m.server here.server.post in
+        sym (same_Some _ _ (rw two.has at own)) ∙ counts_placed m.promoted two.first two.last
 
     abbrev theirs : List D
     theirs = with_clients world.clients.items []
@@ -249,15 +244,8 @@ module _ {D : Type 0} (medium : Medium D) where
       aligned =
           let many = each_length CountsClient (theirs world m here) m.clients (held world m here) in
           let long = length-append same.spare.front world.spare.items in
-          omega (
-            arith,
-            same_length medium world m here,
-            here.eight,
-            opens.stands.stands.eight,
-            opens.no_clients,
-            ap length
-                same.spare.split,
-          );
+          let own = same_length medium world m here in
+          omega (arith, here.eight, opens.stands.stands.eight, opens.no_clients, ap length same.spare.split);
     }
 
     -- and has counted that
@@ -327,5 +315,4 @@ module _ {D : Type 0} (medium : Medium D) (is_image : (disk : D) → medium.may_
 
   pub held_begins : (handed back : List D) (m : Machine) (held : DisksHold medium handed back m)
       → ServerBegins medium m.promoted m.server.durable held.first held.last
-  held_begins handed back m held =
-      server_begins m.server.durable m.promoted held.first held.last m.server.doubt held.longer held.list
+  held_begins handed back m held = server_begins m.server.durable m.promoted held.first held.last m.server.doubt held.longer held.list

@@ -8,8 +8,7 @@ use Rattle.iot_world.proofs.Common.{same_Some, slice_get, slice_index_or, slice_
 -- what was looked up is there
 pub looked_up : {A : Type 0} (xs ys : List A) (place : ℕ) (x : A) → ys ≡ xs → place < length ys → x ≡ get_or ys place x
     → slice_get xs place ≡ Some x
-looked_up xs ys place x same within value =
-    ap (λ l. slice_get l place) (sym same) ∙ slice_get_read ys (length ys) place x refl within value
+looked_up xs ys place x same within value = ap (λ l. slice_get l place) (sym same) ∙ slice_get_read ys (length ys) place x refl within value
 
 -- what is so of all and one more
 pub all_split : {A : Type 0} (P : A → Type 0) (xs : List A) (y : A) → AllByRecursion P (xs ++ y ∷ []) → AllByRecursion P xs × P y

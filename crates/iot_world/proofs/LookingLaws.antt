@@ -1,6 +1,6 @@
 -- What one sees who looks in at a world is what the machine says: the list, what all nodes hold, and what a client shows.
 use Rattle.std.proofs.lemmas.List.{map_more, take_all, Elements.All-from_recursion, Elements.All-map, Elements.All-weaker}
-use Rattle.{std.specs.Prelude.IfSome, iot_client.specs.Ties.Live, iot_client.specs.Ties.disk_of as client_disk}
+use Rattle.{std.specs.Prelude.IfSome, iot_client.specs.Ties.disk_of as client_disk}
 use Rattle.{iot_client.specs.declared.client.Client.Client as LiveClient, iot_event.specs.declared.event.NodeEvent.TheVariants.Show}
 use Rattle.iot_inspect.specs.{Shown.named, Shown.shown, Texts.AreOf, Texts.tree_text, Values.live_data, declared.snapshot.Json.Json}
 use Rattle.iot_laptop.proofs.NodesLaws.{awake_stands, fallen_stands, lent_at, same_name}
@@ -8,13 +8,13 @@ use Rattle.iot_laptop.specs.Laptops.{IsLent, IsView, LaptopStands, disk_by, is_a
 use Rattle.iot_machine.{proofs.StepsLaws.asks, proofs.StepsLaws.bind, specs.Clients.view, specs.Events.Logs}
 use Rattle.iot_machine.specs.{Json.client_data, Recorded.label_of, Recorded.labels_of, Sound.IsListed, Stops.Shows, Texts.log_text}
 use Rattle.{iot_queue.specs.declared.items.Item.Item, iot_server.specs.Servers.state_of, iot_server.specs.declared.server.Server.Server}
-use Rattle.{iot_server_node.specs.Servers.IsServerOf, iot_standing.proofs.StatesLaws.view_is, iot_standing.specs.Kept.ItemsStand}
-use Rattle.{iot_standing.specs.States.RunStand, iot_tree.specs.Tree.Nodes, iot_tree.specs.declared.labels.Label.Label}
+use Rattle.{iot_server_node.specs.Servers.IsServerOf, iot_standing.proofs.StatesLaws.view_is}
+use Rattle.{iot_tree.specs.Tree.Nodes, iot_tree.specs.declared.labels.Label.Label}
 use Rattle.iot_world.proofs.Common.{AllByRecursion, Client}
 use Rattle.iot_world.proofs.Common.{ClientIs, ClientStands, Commit, Declared, IsWorldOfSome, Laptop, List, Machine, MakesStep, Medium, None}
 use Rattle.iot_world.proofs.Common.{Option, Post, Refines, Says, Seated, Some, StandsFor, StandsIn, Up, World, ap, arith, client_in, codes}
 use Rattle.iot_world.proofs.Common.{disk_in, either, false, inl, inr, length, length-map, line, names_in, no_client, node_part, queue_are}
-use Rattle.iot_world.proofs.Common.{refl, same_Some, says, slice_get, subst, sym, take, true, ℕ, [], ◌++◌, ◌+◌, ◌<◌, ◌∙◌, ◌∷◌, ◌≡◌, ◌≤◌}
+use Rattle.iot_world.proofs.Common.{refl, same_Some, says, slice_get, sym, take, true, ℕ, [], ◌++◌, ◌+◌, ◌<◌, ◌∙◌, ◌∷◌, ◌≡◌, ◌≤◌}
 use Rattle.iot_world.proofs.{ListLaws.each_same_as, WorldsLaws.client_here, WorldsLaws.inside_here, WorldsLaws.same_length}
 use Rattle.iot_world.specs.{Looks.AddsTold, Looks.HasTold, Looks.Tells, Looks.client_names, Prelude.Bool, World.IsReady, World.LendsClient}
 use Rattle.serde_json.specs.Data.{Data}
@@ -34,9 +34,7 @@ module _ {D : Type 0} (medium : Medium D) where
   listed_by : (m : Machine) (commits : List Commit) → AllByRecursion (IsListed m) commits → AreOf (names_in m) (labels_of commits)
   listed_by m commits all =
       All-map (λ (l : Label). l.client < length (names_in m)) label_of commits
-      (All-weaker (IsListed m) (λ commit. commit.entry.client < length (names_in m))
-      (λ commit one. subst (λ (n : ℕ). commit.entry.client < n) (sym (length-map m.clients (λ (client : machine.Client). client.name)))
-      one.client) commits
+      (All-weaker (IsListed m) (λ commit. commit.entry.client < length (names_in m)) (λ commit one. rw length-map one.client) commits
       (All-from_recursion (IsListed m) commits all))
 
   -- each commit is one of a client of these names
@@ -64,14 +62,8 @@ module _ {D : Type 0} (medium : Medium D) where
         → shown new ≡ shown old ++ live_data laptop.name items t ∷ [] → Tells medium laptop old new
     tells_live items t up same sees told = λ scripts m here.
         let there : LaptopStands medium scripts laptop m = awake_stands medium scripts laptop m up here in
-        let is : live_data laptop.name items t ≡ client_data m =
-        rw (
-          there.alive,
-          same,
-          queue_are (state_in laptop).items (state_in laptop).held m.node.durable there.state.held there.state.items,
-          there.name,
-          sees scripts m there,
-        ) in
+        let queue = queue_are (state_in laptop).items (state_in laptop).held m.node.durable there.state.held there.state.items in
+        let is : live_data laptop.name items t ≡ client_data m = rw (there.alive, same, queue, there.name, sees scripts m there) in
         record {
           clients = told ∙ ap (λ (d : Data). shown old ++ d ∷ []) is;
           names = names ∙ ap (λ (n : List ℕ). named old ++ n ∷ []) there.name;
@@ -161,15 +153,9 @@ module _ {D : Type 0} (medium : Medium D) where
           record {
             alive = there.alive;
             held = ap (λ (s : kept.State). s.held) lent.state ∙ there.state.held;
-            view =
-                ap kept.view lent.state
-                ∙ view_is (state_in laptop) (live_in laptop) (client_in m place).first (client_in m place).node.durable there.state;
-            queue =
-                subst (λ (s : kept.State). ItemsStand s.items s.held (client_in m place).node.durable.items) (sym lent.state)
-                there.state.items;
-            running =
-                subst (λ (o : kept.State × List Live). RunStand o.0.running o.1 (client_in m place).first
-                (client_in m place).node.durable.running) (λ i. (sym lent.state i, sym lent.live i)) there.state.running;
+            view = ap kept.view lent.state ∙ view_is (state_in laptop) (live_in laptop) _ _ there.state;
+            queue = rw (← lent.state) at there.state.items;
+            running = rw (← lent.state, ← lent.live) at there.state.running;
             ready = record {
               tied = lent.tied;
               begun = lent.begun;
@@ -183,10 +169,7 @@ module _ {D : Type 0} (medium : Medium D) where
     pub lends_disk : (o : Option (LiveClient D)) → o ≡ lent_by laptop.post
         → IfSome o (λ it. ClientIs (λ (l : Laptop D). disk_in l ≡ Some (client_disk it)) place world)
     lends_disk None is = tt
-    lends_disk (Some it) is =
-        λ other there.
-        ap (λ (l : Laptop D). disk_in l) (sym (same_Some laptop other (sym get ∙ there)))
-        ∙ ap disk_by (lent_up laptop.post it is)
+    lends_disk (Some it) is = λ other there. rw (same_Some laptop other (sym get ∙ there)) at (ap disk_by (lent_up laptop.post it is))
 
   pub lends_none : (world : World D) (place : ℕ) → length world.clients.items ≤ place → (m : Machine)
       → StandsFor medium world m → LendsClient medium None place m

@@ -56,13 +56,11 @@ module _ {D : Type 0} (medium : Medium D) where
   promoted_by true first last = refl
 
   pub promoted_at : (server : ServerNode D) (it : HasPlaces server) → is_promoted server ≡ it.placed.promoted
-  promoted_at server it =
-      ap given_up_in (places_have server it) ∙ promoted_by it.placed.promoted it.placed.first it.placed.last
+  promoted_at server it = ap given_up_in (places_have server it) ∙ promoted_by it.placed.promoted it.placed.first it.placed.last
 
   pub promoted_is : (server : ServerNode D) (promoted : Bool) (arms : Arms) → IsBeside medium server promoted arms
       → is_promoted server ≡ promoted
-  promoted_is server promoted arms it =
-      promoted_at server (has_places server promoted arms (server_placed server promoted arms it))
+  promoted_is server promoted arms it = promoted_at server (has_places server promoted arms (server_placed server promoted arms it))
 
   -- ---- the server's disks among the others
 
@@ -73,8 +71,7 @@ module _ {D : Type 0} (medium : Medium D) where
 
   pub server_list : (server : ServerNode D) (promoted : Bool) (first last : D) → disk_of server ≡ Some (placed promoted first last)
       → (xs : List D) → with_server (disk_of server) xs ≡ with_ends first last xs
-  server_list server promoted first last has xs =
-      ap (λ (o : Option (Disks D)). with_server o xs) has ∙ list_placed promoted first last xs
+  server_list server promoted first last has xs = ap (λ (o : Option (Disks D)). with_server o xs) has ∙ list_placed promoted first last xs
 
   pub places_list : (server : ServerNode D) (it : HasPlaces server) (xs : List D)
       → with_server (disk_of server) xs ≡ with_ends it.placed.first it.placed.last xs
@@ -93,8 +90,7 @@ module _ {D : Type 0} (medium : Medium D) where
       → medium.arms (other_of promoted new_first new_last) ≡ medium.arms (other_of promoted first last)
       → SameOrRose ((on_both medium).faults (placed promoted first last)) ((on_both medium).faults (placed promoted new_first new_last))
       → AreTwoUnarmed medium first last new_first new_last
-  two_unarmed false first last new_first new_last own other faults =
-      record { first_arms = own; last_arms = other; faults = faults }
+  two_unarmed false first last new_first new_last own other faults = record { first_arms = own; last_arms = other; faults = faults }
   two_unarmed true first last new_first new_last own other faults = record {
     first_arms = other;
     last_arms = own;
@@ -152,12 +148,9 @@ module _ {D : Type 0} (medium : Medium D) where
   promoted_follows old new promoted arms here stays turns = by (is_up old) (is_promoted old) refl refl
     where
       as_it_was : new ≡ old → ServerFollows old new
-      as_it_was same =
-          subst (ServerFollows old) (sym same) (same_server old (has_places old promoted arms (server_placed old promoted arms here)))
+      as_it_was same = rw same (same_server old (has_places old promoted arms (server_placed old promoted arms here)))
 
       by : (up again : Bool) → is_up old ≡ up → is_promoted old ≡ again → ServerFollows old new
       by true again up is = as_it_was (stays (inl up))
       by false true up is = as_it_was (stays (inr is))
-      by false false up is =
-          turned_server old new arms (subst (λ (b : Bool). IsBeside medium old b arms) (sym (promoted_is old promoted arms here) ∙ is) here)
-          up (turns up is)
+      by false false up is = turned_server old new arms (rw (sym (promoted_is old promoted arms here) ∙ is) at here) up (turns up is)

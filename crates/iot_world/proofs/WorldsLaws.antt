@@ -1,6 +1,6 @@
 -- One node of a world, or a client with the server, among all others: these stay, and each client keeps its name.
 use Rattle.std.proofs.{Common.Err, Common.IfSome, Common.Ok, Common.OnOk, Common.Result, Math.Seq.map-set_same}
-use Rattle.std.proofs.lemmas.{Option.slice_get-get_or, Option.slice_get-map, Option.slice_get_within, Result.on_ok_weaker}
+use Rattle.std.proofs.lemmas.{Option.slice_get-get_or, Option.slice_get-map, Option.slice_get_within}
 use Rattle.{iot_disk.specs.Disk.armed_with, iot_disk.specs.declared.disk.Pick.Pick, iot_event.specs.declared.event.LinkEvent.LinkEvent}
 use Rattle.{iot_event.specs.declared.event.Task.Task, iot_exchange.specs.Pairs.AnyStands}
 use Rattle.{iot_exchange.specs.Pairs.IsStandingWith, iot_exchange.specs.Pairs.two, iot_judging.proofs.FollowingLaws.Grows}
@@ -20,7 +20,7 @@ use Rattle.iot_world.proofs.Common.{Laptop, List, Machine, MakesStep, Medium, No
 use Rattle.iot_world.proofs.Common.{Refines, Says, ServerKeeper, ServerNode, ServerStands, Some, StandsAnyhow, StandsFor, StandsIn, StepsTo}
 use Rattle.iot_world.proofs.Common.{Up, Vec, World, ap, arith, at_each, client_at, client_in, codes, does, either, event_part, false}
 use Rattle.iot_world.proofs.Common.{follows_kept, inl, inr, is_promoted, is_up, kept_text, length, length-set, line, lists, map, names_in}
-use Rattle.iot_world.proofs.Common.{no_client, node_part, on_both, option_map, quiet, refl, rules, same_Some, server_name, slice_get}
+use Rattle.iot_world.proofs.Common.{no_client, node_part, on_both, quiet, refl, rules, same_Some, server_name, slice_get}
 use Rattle.iot_world.proofs.Common.{slice_index_or, slice_set, stamps_in, subst, sym, true, ℕ, [], ◌++◌, ◌+◌, ◌<◌, ◌∙◌, ◌∷◌, ◌≡◌, ◌⊎◌}
 use Rattle.iot_world.proofs.ListLaws.{each_get, each_length, each_map, each_place_set, each_set, looked_up}
 use Rattle.iot_world.{proofs.PlacesLaws.promoted_is, specs.World.EventSteps, specs.World.scripts_of}
@@ -76,8 +76,7 @@ keeps_cut (it ∷ running) name =
 
 keeps_back : (alive : Bool) → KeepsName (comes_back alive)
 keeps_back true name = keeps_does (λ m same. same)
-keeps_back false name =
-    asks_then (λ called. keeps_then (at_its_node name) (stays_goes_on (asks_then (λ running. keeps_cut running name))))
+keeps_back false name = asks_then (λ called. keeps_then (at_its_node name) (stays_goes_on (asks_then (λ running. keeps_cut running name))))
 
 pub node_keeps : (what : NodeEvent) → KeepsName (node_part what)
 node_keeps nodes.Show name = at_its_node name
@@ -101,8 +100,7 @@ module _ {D : Type 0} where
   -- the machine is asked something first
   asked : {A B : Type 0} {Q : World D → Machine → Type 0} {ask : Machine → A} {next : A → Call Machine B} {m : Machine} {w : World D}
       {x y : List ℕ} {a : A} {b : B} → a ≡ ask m → StepFrom Q (next a) m w x y b → StepFrom Q (Then (Asks ask) next) m w x y b
-  asked {ask = ask} {m = m} {w = w} {a = a} is more =
-      joined (quiet {P = Any} {call = Asks ask} {v = w} {a = a} m (refl, is, refl) tt) more
+  asked {ask = ask} {m = m} {w = w} {a = a} is more = joined (quiet {P = Any} {call = Asks ask} {v = w} {a = a} m (refl, is, refl) tt) more
 
   -- a part of it does something
   abbrev pub at_part : {N A : Type 0} {call : Call N A} {Q : World D → Machine → Type 0} {m : Machine} {w : World D} {x y : List ℕ} {a : A}
@@ -123,13 +121,10 @@ module _ {D : Type 0} (medium : Medium D) where
       inside_here = subst (λ n. c < n) same_length (slice_get_within world.clients.items c laptop get)
 
       name_here : slice_get (names_in m) c ≡ Some (client_in m c).name
-      name_here =
-          slice_get-map (λ (k : Client). k.name) m.clients c
-          ∙ ap (option_map (λ (k : Client). k.name)) (slice_get-get_or m.clients c no_client inside_here)
+      name_here = rw (slice_get-map (λ (k : Client). k.name) m.clients c, slice_get-get_or m.clients c no_client inside_here)
 
       pub client_here : StandsIn medium m.scripts m.server.durable laptop (client_in m c)
-      client_here =
-          each_get (StandsIn medium m.scripts m.server.durable) world.clients.items m.clients c laptop no_client get here.clients_
+      client_here = each_get (StandsIn medium m.scripts m.server.durable) world.clients.items m.clients c laptop no_client get here.clients_
 
       -- the client with the server
       pub pair_here : AnyStands medium (scripts_of world) (names_in m) c (two laptop world.server) ((pair_at c).get m)
@@ -270,8 +265,7 @@ module _ {D : Type 0} (medium : Medium D) where
       served : (m : Machine) (node : Node (List Commit)) (n : ℕ) → StandsFor medium old m
           → ServerStands medium (names_in m) server_ node n → Grows m.server.durable node.durable
           → StandsFor medium later (record m { server = node; requests = n })
-      served m node n here stands more =
-          beside_with m node n m.promoted m.beside here stands (kept m.promoted m.beside here.beside) more
+      served m node n here stands more = beside_with m node n m.promoted m.beside here stands (kept m.promoted m.beside here.beside) more
 
       -- whatever event it is, after which the list has got longer
       pub at_server : {call : Call (Node (List Commit)) (Unit {0})} (x y : List ℕ)
@@ -291,8 +285,7 @@ module _ {D : Type 0} (medium : Medium D) where
           → MakesStep medium RestartsServer old later x y tt
       restarts x y one = grown (events.Server nodes.Restart) old later x y (λ m here.
           let s = (one (names_in m) m.requests).step m.server here.server in
-          let stands = subst (λ (b : Bool). ServerStands medium (names_in m) server_ s.1 (answered_since b m.requests))
-          (sym (up_is medium (names_in m) old.server m.server m.requests here.server)) s.4 in
+          let stands = rw (← up_is medium (names_in m) old.server m.server m.requests here.server) at s.4 in
           asked refl (asked refl (joined (at_part {Q = Any} {w = later} server s.0 s.1 s.2 s.3 tt)
           (quiet (counts_anew m.server.alive (server.set s.1 m)) (refl, refl) (anew m s.1 here m.server.alive stands)))))
         where
@@ -343,8 +336,7 @@ module _ {D : Type 0} (medium : Medium D) where
             (record { text = _; next = m; wrote = again is own; step = (refl, refl); stands = λ more. rw (stays (inr own)) here })
         by m here false false is own =
             let not_yet : false ≡ m.promoted = sym own ∙ asks_own m here in
-            let beside = subst (λ (b : Bool). IsBeside medium old.server b m.beside) (sym not_yet) here.beside in
-            let s = (one is own (names_in m)).step m.server m.requests m.beside here.server beside in
+            let s = (one is own (names_in m)).step m.server m.requests m.beside here.server (rw (← not_yet) at here.beside) in
             let turned : Machine = give_up m in
             asked not_yet (joined (quiet {P = Any} {v = later} turned (refl, refl) tt)
             (asked refl (joined (at_part {Q = Any} {w = later} {a = s.1} server s.0 s.2 s.3 s.4 tt)
@@ -353,11 +345,7 @@ module _ {D : Type 0} (medium : Medium D) where
 
 -- ---- an event of a world is one of the machine's
 
--- what follows from what is so if it was done
-pub then_ok : {T E P Q : Type 0} (r : Result T E) → OnOk r P → (P → Q) → OnOk r Q
-then_ok r it then_ = on_ok_weaker r then_ it
-
--- or from two things that are so then
+-- what follows from two things that are so if it was done
 pub both_ok : {T E P Q R : Type 0} (r : Result T E) → OnOk r P → OnOk r Q → (P → Q → R) → OnOk r R
 both_ok (Ok done) one other then_ = then_ one other
 both_ok (Err fault) one other then_ = tt

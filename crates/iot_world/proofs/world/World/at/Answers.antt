@@ -1,6 +1,6 @@
-use Rattle.{iot_server_node.proofs.BeginningLaws.commits_kept, iot_world.proofs.Common.false}
+use Rattle.{iot_server_node.proofs.BeginningLaws.commits_kept, iot_world.proofs.Common.false, iot_world.proofs.Common.on_ok_weaker}
 use Rattle.iot_world.proofs.{Common.refl, DecidingLaws.decides_here, DisksLaws.client_leaves, DisksLaws.server_keeps, DisksLaws.server_same}
-use Rattle.iot_world.proofs.WorldsLaws.{at_client, at_task, both_ok, link_keeps, node_keeps, then_ok}
+use Rattle.iot_world.proofs.WorldsLaws.{at_client, at_task, both_ok, link_keeps, node_keeps}
 use Rattle.iot_world.proofs.world.World.at.Goals as goal
 
 pub returns-in-Node-clause-step : goal.returns-in-Node-clause-step
@@ -12,8 +12,8 @@ returns-in-Node-clause-step g c =
 pub returns-in-Node-clause-decided : goal.returns-in-Node-clause-decided
 returns-in-Node-clause-decided g c =
     rw c.in-Node.is
-    (then_ok c.befall.result c.befall.ensures.decided (decides_here _ c.args.self.now c.args.client _ _ _ _ c.requires.inside
-    c.index_mut-laptop.ensures.value))
+    (on_ok_weaker c.befall.result (decides_here _ c.args.self.now c.args.client _ _ _ _ c.requires.inside
+    c.index_mut-laptop.ensures.value) c.befall.ensures.decided)
 
 pub returns-in-Node-clause-disks : goal.returns-in-Node-clause-disks
 returns-in-Node-clause-disks g c =
@@ -24,8 +24,9 @@ returns-in-Node-clause-disks g c =
 pub returns-in-Link-clause-step : goal.returns-in-Link-clause-step
 returns-in-Link-clause-step g c =
     rw c.in-Link.is
-    (then_ok _ c.relink.ensures.step (at_client _ _ _ _ _ _ _ _ (link_keeps c.in-Link.event) c.requires.inside
-    c.index_mut-laptop.ensures.value refl c.relink.ensures.place c.relink.ensures.trails))
+    (on_ok_weaker _ (at_client _ _ _ _ _ _ _ _ (link_keeps c.in-Link.event) c.requires.inside
+    c.index_mut-laptop.ensures.value refl c.relink.ensures.place c.relink.ensures.trails)
+    c.relink.ensures.step)
 
 pub returns-in-Link-clause-disks : goal.returns-in-Link-clause-disks
 returns-in-Link-clause-disks g c =
@@ -36,8 +37,8 @@ returns-in-Link-clause-disks g c =
 pub returns-in-Task-clause-step : goal.returns-in-Task-clause-step
 returns-in-Task-clause-step g c =
     rw c.in-Task.is
-    (then_ok _ c.perform.ensures.step (at_task _ _ _ _ c.perform.ensures.disks.beside _ _ _ c.requires.inside
-    c.index_mut-laptop.ensures.value refl _ _ _ _ c.as_slice.ensures.value))
+    (on_ok_weaker _ (at_task _ _ _ _ c.perform.ensures.disks.beside _ _ _ c.requires.inside
+    c.index_mut-laptop.ensures.value refl _ _ _ _ c.as_slice.ensures.value) c.perform.ensures.step)
 
 pub returns-in-Task-clause-disks : goal.returns-in-Task-clause-disks
 returns-in-Task-clause-disks g c =

@@ -1,4 +1,4 @@
-use Rattle.iot_world.proofs.{Common.length, Common.subst, Common.◌≤◌, ListLaws.looked_up}
+use Rattle.iot_world.proofs.{ListLaws.looked_up}
 use Rattle.iot_world.proofs.LookingLaws.{lends_any, lends_disk, lends_none, lends_ready}
 use Rattle.iot_world.proofs.world.World.client.Goals as goal
 
@@ -8,8 +8,7 @@ returns-in-Some-clause-lent g c =
     (looked_up _ _ _ _ c.deref.ensures.value c.in-Some.ensures.lookup.3.0 c.in-Some.ensures.lookup.1) _ c.lent.ensures.lent
 
 pub returns-in-Some-clause-ready : goal.returns-in-Some-clause-ready
-returns-in-Some-clause-ready g c =
-    lends_ready g.D.Disk.medium c.args.self.now c.args.place _ (returns-in-Some-clause-lent g c)
+returns-in-Some-clause-ready g c = lends_ready g.D.Disk.medium c.args.self.now c.args.place _ (returns-in-Some-clause-lent g c)
 
 pub returns-in-Some-clause-disk : goal.returns-in-Some-clause-disk
 returns-in-Some-clause-disk g c =
@@ -17,6 +16,4 @@ returns-in-Some-clause-disk g c =
     (looked_up _ _ _ _ c.deref.ensures.value c.in-Some.ensures.lookup.3.0 c.in-Some.ensures.lookup.1) _ c.lent.ensures.lent
 
 pub returns-in-None-clause-lent : goal.returns-in-None-clause-lent
-returns-in-None-clause-lent g c =
-    lends_none _ c.args.self.now c.args.place
-    (subst (λ ls. length ls ≤ c.args.place) c.deref.ensures.value c.in-None.ensures.lookup.3)
+returns-in-None-clause-lent g c = lends_none _ c.args.self.now c.args.place (rw c.deref.ensures.value at c.in-None.ensures.lookup.3)

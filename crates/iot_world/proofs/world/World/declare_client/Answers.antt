@@ -1,6 +1,6 @@
 use Rattle.iot_laptop.specs.Laptops.{stamps_by}
-use Rattle.iot_world.proofs.{Common.ap, Common.length, Common.refl, Common.[], Common.◌++◌, Common.◌∙◌, Common.◌∷◌, DeclaringLaws.declares}
-use Rattle.iot_world.proofs.{DeclaringLaws.joined_leaves, DeclaringLaws.joins, DisksLaws.nothing_leaves, WorldsLaws.then_ok}
+use Rattle.iot_world.proofs.{Common.ap, Common.length, Common.on_ok_weaker, Common.refl, Common.[], Common.◌++◌, Common.◌∙◌, Common.◌∷◌}
+use Rattle.iot_world.proofs.{DeclaringLaws.declares, DeclaringLaws.joined_leaves, DeclaringLaws.joins, DisksLaws.nothing_leaves}
 use Rattle.iot_world.proofs.world.World.declare_client.Goals as goal
 
 pub returns-in_err-reserve-clause-disks : goal.returns-in_err-reserve-clause-disks
@@ -16,8 +16,8 @@ returns g c =
     let kept = c.start-started.ensures in
     let started = c.start-started.result in
     record {
-      step = then_ok _ kept.step (declares _ _ _ _ _ _ _ _ push taken.items (it.place ∙ at) kept.place it.stands
-          (ap stamps_by it.unopened.down) _ _);
+      step = on_ok_weaker _ (declares _ _ _ _ _ _ _ _ push taken.items (it.place ∙ at) kept.place it.stands
+          (ap stamps_by it.unopened.down) _ _) kept.step;
       declared = joins g.D.Disk.medium c.args.name.now _ _ _ _ was _ push taken.items started;
       disks = joined_leaves _ c.args.name.now _ _ _ _ was _ push taken.items started it.disk kept.disk taken.len taken.capacity
           c.requires.stands;

@@ -3,8 +3,7 @@ use Rattle.iot_world.proofs.{DisksLaws.last_has, DisksLaws.left_one, PlacesLaws.
 use Rattle.iot_world.proofs.world.World.into_disks.Goals as goal
 
 pub into_disk-requires : goal.into_disk-requires
-into_disk-requires g c =
-    last_has _ _ _ c.in-Some.ensures.items c.laptops.invariant.has
+into_disk-requires g c = last_has _ _ _ c.in-Some.ensures.items c.laptops.invariant.has
 
 pub laptops-preserved : goal.laptops-preserved
 laptops-preserved g c =

@@ -1,4 +1,4 @@
-use Rattle.iot_world.proofs.{Common.length, Common.subst, Common.◌≤◌, ListLaws.looked_up, LookingLaws.tells_all, LookingLaws.tells_more}
+use Rattle.iot_world.proofs.{ListLaws.looked_up, LookingLaws.tells_all, LookingLaws.tells_more}
 use Rattle.iot_world.proofs.world.World.told.Goals as goal
 
 pub loop-laptop-preserved : goal.loop-laptop-preserved
@@ -10,5 +10,4 @@ loop-laptop-preserved g c =
 pub returns : goal.returns
 returns g c =
     tells_all _ c.args.self.now c.loop-laptop.laptop-index c.loop-laptop.json
-    (subst (λ ls. length ls ≤ c.loop-laptop.laptop-index) c.deref-laptop-items.ensures.value c.loop-laptop-test.false)
-    c.loop-laptop.invariant
+    (rw c.deref-laptop-items.ensures.value at c.loop-laptop-test.false) c.loop-laptop.invariant
