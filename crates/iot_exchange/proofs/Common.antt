@@ -1,13 +1,12 @@
 -- The words of which the laws of this crate speak.
-pub use Rattle.std.proofs.Common.{Bool, Bor, Err, IsErrAnd}
-pub use Rattle.std.proofs.Common.{IsSome, List, None, Ok, Option, Result, Some, Vec, ap, arith, bytes_eq, codes, false, length, map, not}
-pub use Rattle.std.proofs.Common.{refl, rules, slice_get, slice_index_or, subst, sym, true, ℕ, [], ◌++◌, ◌+◌, ◌-◌, ◌<◌, ◌^◌, ◌∙◌, ◌∷◌, ◌≡◌}
-pub use Rattle.std.proofs.lemmas.{List.append-nil, Option.same_Some, Option.slice_get-get_or, Result.on_ok_weaker}
-pub use Rattle.std.specs.{Option.option_copied, Prelude.option_map}
-pub use Rattle.{iot_acts.specs.Traces.after_acts, iot_client.specs.declared.steps.Step.Step, iot_disk.specs.Disk.Medium}
-pub use Rattle.iot_exchange.specs.Pairs.{Asked, AsksFor, Both, Came, Does, DoesFrom}
-pub use Rattle.iot_exchange.specs.Pairs.{IsAt, IsReadyWith, Judgment, KeepsDisks, Objects, PairStands, Query, UpStands, request_of, two}
-pub use Rattle.iot_exchange.specs.{Queues.SyncsNext, Queues.ended_as, Saying.line_of, Saying.place_said}
+pub use Rattle.std.proofs.Common.{Bool, Bor, Err, IsErrAnd, IsSome, List, None, Ok, Option, Result, Some, Vec, ap, arith, bytes_eq, codes}
+pub use Rattle.std.proofs.Common.{false, length, map, not, refl, rules, slice_get, slice_index_or, subst, sym, true, ℕ, [], ◌++◌, ◌+◌, ◌-◌}
+pub use Rattle.std.proofs.{Common.◌<◌, Common.◌^◌, Common.◌∙◌, Common.◌∷◌, Common.◌≡◌, lemmas.List.append-nil, lemmas.Option.same_Some}
+pub use Rattle.std.{proofs.lemmas.Option.slice_get-get_or, proofs.lemmas.Result.on_ok_weaker, specs.Option.option_copied}
+pub use Rattle.{std.specs.Prelude.option_map, iot_acts.specs.Traces.after_acts, iot_client.specs.declared.steps.Step.Step}
+pub use Rattle.{iot_disk.specs.Disk.Medium, iot_exchange.specs.Pairs.Asked, iot_exchange.specs.Pairs.AsksFor}
+pub use Rattle.iot_exchange.specs.Pairs.{Both, Came, Does, DoesFrom, IsAt, IsReadyWith, Judgment, KeepsDisks, Objects, PairStands, Query}
+pub use Rattle.iot_exchange.specs.{Pairs.UpStands, Pairs.request_of, Pairs.two, Queues.SyncsNext, Saying.line_of, Saying.place_said}
 pub use Rattle.iot_exchange.specs.{Saying.synced_by, Saying.told_synced, Saying.told_text, Scripts.script_of, Scripts.scripts_of}
 pub use Rattle.iot_exchange.specs.Words.{Client, Declared, Errand, Goes, Halt, KeepsDisk, Laptop, LaptopStands, Nodes, Pair}
 pub use Rattle.iot_exchange.specs.Words.{Refresh, ServerNode, ServerStands, StepsTo, Try, disk_in, is_up, name_of, stamps_in, state_in}
@@ -17,12 +16,11 @@ pub use Rattle.{iot_kept.specs.Bringing.brought, iot_kept.specs.States.State, io
 pub use Rattle.iot_laptop.specs.{Alone.yielding, Calls.AsksAll, Calls.EndsAlone, Calls.UnlessNoMemory, Calls.compared_if, Calls.done}
 pub use Rattle.iot_laptop.specs.{Laptops.KeepsTrails, Laptops.SamePlace, Messages.SpellsTree, declared.needs.Certified.Certified}
 pub use Rattle.iot_machine.proofs.StepsLaws.{joined, quiet}
-pub use Rattle.iot_machine.specs.Calls.{Answers, Asks, Call, Repeats, Tells, Then, either, unless_over}
+pub use Rattle.iot_machine.specs.Calls.{Answers, Asks, Call, Repeats, Tells, Then, unless_over}
 pub use Rattle.iot_machine.specs.Clients.{ClientState, act_once, new_client}
-pub use Rattle.iot_machine.specs.{Events.Closes, Events.is_drained, Events.runs_through, Machine.Commit, Machine.kept, Machine.script_at}
-pub use Rattle.iot_machine.specs.{Nodes.Node, Options.OnConflict, Refining.StepFrom, Texts.again_line, Texts.begin_line, Texts.line}
-pub use Rattle.iot_machine.specs.{Texts.step_line, Texts.transaction_name, Transactions.Compared, Transactions.Compares, Transactions.Ends}
-pub use Rattle.iot_machine.specs.Transactions.{Notes, Steps, Yields, end_by, fetched, has_any, if_runs, next_of, pends, runs, yield_if}
+pub use Rattle.iot_machine.specs.{Machine.Commit, Machine.kept, Machine.script_at, Nodes.Node, Options.OnConflict, Refining.StepFrom}
+pub use Rattle.iot_machine.specs.Texts.{again_line, begin_line, line, step_line, transaction_name}
+pub use Rattle.iot_machine.specs.Transactions.{Compared, Notes, Steps, Yields, has_any, pends, yield_if}
 pub use Rattle.iot_node.specs.declared.{halt.Halt.TheVariants.NoMemory, halt.Halt.TheVariants.Over, lines.Transaction.Transaction}
 pub use Rattle.iot_queue.specs.declared.items.{Item.Item, Stage.Stage}
 pub use Rattle.iot_server_node.specs.{Messages.SpellsCut, Servers.stamps_of, declared.message.Message.Message}

@@ -2,13 +2,13 @@
 -- one of the machine, also if the client is down.
 use Rattle.std.proofs.Common.{inl, is_some, length-append, suc, ◌&&◌, ◌*◌, ◌≤◌}
 use Rattle.{std.specs.Prelude.IsSome, iot_disk.specs.Disk.Storing}
-use Rattle.iot_exchange.proofs.Common.{Answers, Asks, Bool, Both, Call, Client, ClientState, Compared, Compares}
-use Rattle.iot_exchange.proofs.Common.{Declared, Does, DoesFrom, EndsAlone, Err, Follows, Goes, Halt, IsAt, IsErrAnd, IsReadyWith, Item}
-use Rattle.iot_exchange.proofs.Common.{ItemsStand, KeepsDisk, KeepsDisks, KeepsTrails, Laptop, List, Medium, NoMemory, Nodes, None, Notes}
-use Rattle.iot_exchange.proofs.Common.{NotesAlone, Ok, OnConflict, Option, Over, Pair, PairStands, Repeats, Result, SamePlace, ServerNode}
-use Rattle.iot_exchange.proofs.Common.{ServerStands, Some, StepFrom, StepsTo, SyncsNext, Tells, Then, Try, UnlessNoMemory, UpStands, Yields}
-use Rattle.iot_exchange.proofs.Common.{after_acts, ap, append-nil, arith, codes, disk_in, done, either, false, has_any, is_drained, joined}
-use Rattle.iot_exchange.proofs.Common.{kept, length, line, not, pends, quiet, refl, runs_is, stamps_in, state_in, subst, sym, true}
+use Rattle.iot_exchange.proofs.Common.{Answers, Asks, Bool, Both, Call, Client, ClientState}
+use Rattle.iot_exchange.proofs.Common.{Compared, Declared, Does, DoesFrom, EndsAlone, Err, Follows, Goes, Halt, IsAt, IsErrAnd, IsReadyWith}
+use Rattle.iot_exchange.proofs.Common.{Item, ItemsStand, KeepsDisk, KeepsDisks, KeepsTrails, Laptop, List, Medium, NoMemory, Nodes}
+use Rattle.iot_exchange.proofs.Common.{None, Notes, NotesAlone, Ok, OnConflict, Option, Over, Pair, PairStands, Repeats, Result, SamePlace}
+use Rattle.iot_exchange.proofs.Common.{ServerNode, ServerStands, Some, StepFrom, StepsTo, SyncsNext, Tells, Then, Try, UnlessNoMemory}
+use Rattle.iot_exchange.proofs.Common.{UpStands, Yields, after_acts, ap, append-nil, arith, codes, disk_in, done, false, has_any}
+use Rattle.iot_exchange.proofs.Common.{joined, kept, length, line, not, pends, quiet, refl, runs_is, stamps_in, state_in, subst, sym, true}
 use Rattle.iot_exchange.proofs.Common.{two, unless_over, waits_is, waits_of, yield_if, yielding, ℕ, [], ◌++◌, ◌+◌, ◌-◌, ◌<◌, ◌∙◌, ◌∷◌, ◌≡◌}
 use Rattle.iot_exchange.proofs.StepsLaws.{answers_from, asks_from, behind, refuses_from, says_from, then_from}
 use Rattle.iot_exchange.specs.{Pairs.AnyStands, Pairs.IsStandingWith, Pairs.KeepsServed, Words.SyncsAll}
@@ -16,10 +16,10 @@ use Rattle.iot_judging.proofs.FollowingLaws.{follows_kept}
 use Rattle.iot_laptop.{proofs.NodesLaws.awake_stands, proofs.NodesLaws.is_awake, proofs.NodesLaws.is_down, specs.Alone.CertifiesAlone}
 use Rattle.iot_laptop.specs.Alone.{ComparesAlone, StartsAlone, YieldsAlone, YieldsAndNotes, certify_alone, change_by, set_class, yields_by}
 use Rattle.iot_laptop.specs.Laptops.{ClientStands, StandsAnyhow, awake, fallen, is_alive}
-use Rattle.iot_machine.{proofs.StepsLaws.at_each, specs.Calls.Gets, specs.Calls.OrSays}
-use Rattle.iot_machine.specs.{Calls.Whole, Calls.or_text, Clients.begin, Events.IfUp, Transactions.Starts, Transactions.unless_stopped}
-use Rattle.iot_server_node.proofs.BeginningLaws.{records_same, records_then}
-use Rattle.iot_server_node.specs.{Disks.on_both, Servers.disk_of}
+use Rattle.iot_machine.{proofs.StepsLaws.at_each, specs.Calls.Gets, specs.Calls.OrSays, specs.Calls.Whole, specs.Calls.either}
+use Rattle.iot_machine.specs.{Calls.or_text, Clients.begin, Events.IfUp, Events.is_drained, Transactions.Compares, Transactions.Starts}
+use Rattle.{iot_machine.specs.Transactions.unless_stopped, iot_server_node.proofs.BeginningLaws.records_same}
+use Rattle.iot_server_node.{proofs.BeginningLaws.records_then, specs.Disks.on_both, specs.Servers.disk_of}
 use Rattle.iot_machine.specs.Clients as clients
 use Rattle.iot_machine.proofs.StepsLaws as calls
 use Rattle.iot_server_node.proofs.ServersLaws as servers

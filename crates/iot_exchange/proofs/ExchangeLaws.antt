@@ -1,12 +1,12 @@
 -- An exchange of a client with the server; what a client asks for, and holds if it comes; and what it knows of its transactions.
-use Rattle.{std.specs.Prelude.nat_lt, std.specs.Prelude.not, std.specs.declared.alloc.Global.Global, iot_exchange.proofs.Common.Asked}
-use Rattle.iot_exchange.proofs.Common.{AsksAll, AsksFor, Bool, Both, Call, Came, Changes, Client, ClientState, Commit, Declared, Does}
-use Rattle.iot_exchange.proofs.Common.{Err, Errand, Follows, Grows, Halt, IsAt, IsOneMessage, IsReply, IsTree, Item, Judgment, KeepsDisk}
-use Rattle.iot_exchange.proofs.Common.{KeepsDisks, Laptop, LaptopStands, List, Medium, Message, NoMemory, Node, Nodes, None, Notes, Objects}
-use Rattle.iot_exchange.proofs.Common.{Ok, Option, Over, Pair, PairStands, Query, Refresh, Result, SamePlace, ServerNode, ServerStands}
-use Rattle.iot_exchange.proofs.Common.{Some, SpellsCut, SpellsTree, SpellsVerdict, Stamps, StepsTo, UpStands, Vec, ap, arith, base_of}
-use Rattle.iot_exchange.proofs.Common.{brought, call_one, disk_in, false, has_any, is_up, length, new_client, nodes_of, nothing_held}
-use Rattle.iot_exchange.proofs.Common.{pends, refl, reply_laws, reply_spelling, request_of, runs, runs_is, stamps_in, stamps_of}
+use Rattle.std.specs.{Prelude.nat_lt, Prelude.not, declared.alloc.Global.Global}
+use Rattle.iot_exchange.proofs.Common.{Asked, AsksAll, AsksFor, Bool, Both, Call, Came, Changes, Client, ClientState}
+use Rattle.iot_exchange.proofs.Common.{Commit, Declared, Does, Err, Errand, Follows, Grows, Halt, IsAt, IsOneMessage, IsReply, IsTree}
+use Rattle.iot_exchange.proofs.Common.{Item, Judgment, KeepsDisk, KeepsDisks, Laptop, LaptopStands, List, Medium, Message, NoMemory, Node}
+use Rattle.iot_exchange.proofs.Common.{Nodes, None, Notes, Objects, Ok, Option, Over, Pair, PairStands, Query, Refresh, Result, SamePlace}
+use Rattle.iot_exchange.proofs.Common.{ServerNode, ServerStands, Some, SpellsCut, SpellsTree, SpellsVerdict, Stamps, StepsTo, UpStands, Vec}
+use Rattle.iot_exchange.proofs.Common.{ap, arith, base_of, brought, call_one, disk_in, false, has_any, is_up, length, new_client, nodes_of}
+use Rattle.iot_exchange.proofs.Common.{nothing_held, pends, refl, reply_laws, reply_spelling, request_of, runs_is, stamps_in, stamps_of}
 use Rattle.iot_exchange.proofs.Common.{state_in, state_of, subst, sym, two, waits_is, waits_of, ℕ, [], ◌++◌, ◌<◌, ◌^◌, ◌∙◌, ◌∷◌, ◌≡◌}
 use Rattle.iot_exchange.proofs.DoesLaws.{OfEach, StepsOn, Unless, answers, by_call, in_place, notes, then_does}
 use Rattle.iot_exchange.proofs.FollowingLaws.{follows_brought, follows_nothing, held_is, makes_cut, nodes_none, nothing_tree, up_stamps}
@@ -18,7 +18,7 @@ use Rattle.iot_link.specs.declared.passages.Passage.TheVariants.{Away, Both as R
 use Rattle.iot_machine.proofs.{StepsLaws.asks, StepsLaws.bind, StepsLaws.gets, WholeLaws.whole_comes}
 use Rattle.iot_machine.specs.{Calls.At, Clients.most_running, Clients.snapshot, Machine.break, Machine.its_server}
 use Rattle.iot_machine.specs.Serving.{Judges, Lends, Submission}
-use Rattle.iot_machine.specs.Transactions.{Brings, Exchange, Handles, Holds, counted, exchange_by, holds, is_full}
+use Rattle.iot_machine.specs.Transactions.{Brings, Exchange, Handles, Holds, counted, exchange_by, holds, is_full, runs}
 use Rattle.iot_server_node.{proofs.ServersLaws.up_is, specs.Messages.said_of, specs.Servers.HavingAnswered}
 use Rattle.iot_server_node.specs.{Servers.IsHanded, Servers.IsNamedIn, Servers.ServesBy, declared.server.Served.Served}
 use Rattle.{iot_stamp.proofs.CutsLaws.nothing_sent, iot_standing.proofs.StatesLaws.many_is, iot_tree.specs.Tree.IsWhole}

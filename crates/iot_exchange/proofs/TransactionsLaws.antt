@@ -4,12 +4,11 @@ use Rattle.std.proofs.lemmas.{Bool.eq-eqb, Bool.leb-false, Bool.leb-true, Option
 use Rattle.std.specs.{Prelude.if◌then◌else◌, Prelude.leb, Slice.IsItemAt}
 use Rattle.iot_client.specs.{Calls.is_over_if_any, Calls.live_numbered, Calls.may_end_if_any, Ties.Live}
 use Rattle.iot_exchange.proofs.Common.{ACT_LIMIT, Answers, Asks, Bool, Bor, Both, Certified}
-use Rattle.iot_exchange.proofs.Common.{Client, ClientState, Closes, Compared, Declared, Does, DoesFrom, Ends, Err}
-use Rattle.iot_exchange.proofs.Common.{Goes, Halt, IsErrAnd, Item, ItemsStand, KeepsDisk, KeepsDisks, KeepsTrails, Laptop, LaptopStands}
-use Rattle.iot_exchange.proofs.Common.{List, Medium, NoMemory, Nodes, None, Notes, Ok, Option, Over, Pair, Repeats, Result, SamePlace}
-use Rattle.iot_exchange.proofs.Common.{ServerNode, Some, Stage, Step, Steps, Tells, Then, Try, UnlessNoMemory, UpStands, Yields}
-use Rattle.iot_exchange.proofs.Common.{act_once, after_acts, again_line, ap, append-nil, begin_line, codes, compared_if, disk_in, done}
-use Rattle.iot_exchange.proofs.Common.{end_by, ended_as, false, fetched, has_any, kept, length, line, line_of, map, next_of, not}
+use Rattle.iot_exchange.proofs.Common.{Client, ClientState, Compared, Declared, Does, DoesFrom, Err, Goes, Halt, IsErrAnd, Item, ItemsStand}
+use Rattle.iot_exchange.proofs.Common.{KeepsDisk, KeepsDisks, KeepsTrails, Laptop, LaptopStands, List, Medium, NoMemory, Nodes, None}
+use Rattle.iot_exchange.proofs.Common.{Notes, Ok, Option, Over, Pair, Repeats, Result, SamePlace, ServerNode, Some, Stage, Step, Steps}
+use Rattle.iot_exchange.proofs.Common.{Tells, Then, Try, UnlessNoMemory, UpStands, Yields, act_once, after_acts, again_line, ap, append-nil}
+use Rattle.iot_exchange.proofs.Common.{begin_line, codes, compared_if, disk_in, done, false, has_any, kept, length, line, line_of, map, not}
 use Rattle.iot_exchange.proofs.Common.{option_copied, option_map, pends, place_said, refl, same_Some, slice_get, state_in, step_line, subst}
 use Rattle.iot_exchange.proofs.Common.{sym, transaction_name, true, two, unless_over, yield_if, yielding, ℕ, [], ◌++◌, ◌-◌, ◌∙◌, ◌∷◌, ◌≡◌}
 use Rattle.iot_exchange.proofs.DoesLaws.{Certifying, OfEach, Unless, answers}
@@ -17,18 +16,18 @@ use Rattle.iot_exchange.proofs.DoesLaws.{asks_then, by_client, certifying, each_
 use Rattle.iot_exchange.proofs.DoesLaws.{keeps_then, no_memory, noted, still, tells, then_does, yields_name, yields_pair, yields_then}
 use Rattle.iot_exchange.proofs.FirstLaws.{SameStage, resolved, same_stage}
 use Rattle.iot_exchange.proofs.StepsLaws.{also_from, answers_from, asks_from, gets_from, refuses_from, says_from}
-use Rattle.{iot_exchange.specs.Queues.EndsAloud, iot_inspect.specs.declared.waiting.RunLine.RunLine}
+use Rattle.{iot_exchange.specs.Queues.EndsAloud, iot_exchange.specs.Queues.ended_as, iot_inspect.specs.declared.waiting.RunLine.RunLine}
 use Rattle.iot_judging.proofs.NextLaws.{is_at_end, is_at_limit, is_next}
 use Rattle.iot_kept.specs.{Memory.classes_of, Memory.transaction, Memory.transactions, States.Transaction, States.numbered}
 use Rattle.iot_laptop.specs.Calls.{IsDoneIn, IsGoneIfAny, IsNext, NextIs, TakesStep, meant_in}
 use Rattle.iot_laptop.specs.{Laptops.Reclassed, Laptops.live_in, declared.needs.Gone.Gone}
 use Rattle.iot_machine.proofs.GroupingLaws.{looked, looks, regrouped, then_also}
 use Rattle.iot_machine.specs.Clients.{Acts, AtEnd, AtLimit, Next, Running, has_number, meant, next_away, next_by, next_step, so_far}
-use Rattle.iot_machine.specs.Events.{ReadsOf, StepsAloud, place_text, run_line, running_in, said_of, says_reads, step_text}
+use Rattle.iot_machine.specs.Events.{Closes, ReadsOf, StepsAloud, place_text, run_line, running_in, said_of, says_reads, step_text}
 use Rattle.iot_machine.specs.{Machine.is_first, Recorded.items_kept, Recorded.queue_kept, Recorded.stage_kept}
-use Rattle.iot_machine.specs.Texts.{end_line, fetch_line, queue_text}
-use Rattle.iot_machine.specs.Transactions.{Differs, Ended, Refuses, Same, certifies, ended_of, ends_by, step_by, step_of, syncs_or_waits}
-use Rattle.iot_standing.proofs.RunsLaws.{RunsAs, number_found}
+use Rattle.iot_machine.specs.{Texts.end_line, Texts.fetch_line, Texts.queue_text, Transactions.Differs, Transactions.Ended}
+use Rattle.iot_machine.specs.Transactions.{Ends, Refuses, Same, certifies, end_by, ended_of, ends_by, fetched, next_of, step_by, step_of}
+use Rattle.{iot_machine.specs.Transactions.syncs_or_waits, iot_standing.proofs.RunsLaws.RunsAs, iot_standing.proofs.RunsLaws.number_found}
 use Rattle.iot_standing.proofs.StatesLaws.{ended_is, first_is, found_stands, may_end_is, none_is, none_yields, numbered_is}
 use Rattle.iot_standing.specs.States.{IsOver, IsUnended, RunStand}
 use Rattle.iot_tree.specs.{Tree.Path, declared.questions.Question.Question}

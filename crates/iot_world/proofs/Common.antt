@@ -1,10 +1,11 @@
 -- The words of which the laws of this crate speak.
-pub use Rattle.std.proofs.Common.{Bool, List, None, Option, Some, ap, arith, codes, drop, false, inl, inr, length, map, refl, rules}
-pub use Rattle.std.proofs.Common.{slice_get, slice_index_or, slice_set, subst, suc, sym, take, true, zero, ℕ, [], ◌++◌, ◌+◌, ◌<◌, ◌||◌, ◌∙◌}
-pub use Rattle.std.proofs.{Common.◌∷◌, Common.◌≡◌, Common.◌≤◌, Common.◌⊎◌, lemmas.Bool.or_parts, lemmas.Result.on_ok_weaker}
-pub use Rattle.std.proofs.lemmas.{List.append-nil, List.length-append, List.length-map, List.length-set, List.map-append, Option.same_Some}
-pub use Rattle.std.specs.{List.AllZip as Each, Option.option_map, Prelude.Err, Prelude.IfErr, Prelude.Ok, Prelude.Result, Prelude.Vec}
-pub use Rattle.{std.specs.Prelude.is_some, std.specs.declared.alloc.Global.Global, iot_disk.specs.Disk.Arms}
+pub use Rattle.std.proofs.Common.{Bool, List, None, Option}
+pub use Rattle.std.proofs.Common.{Some, ap, arith, codes, drop, false, inl, inr, length, map, refl, rules, slice_get, slice_index_or}
+pub use Rattle.std.proofs.Common.{slice_set, subst, suc, sym, take, true, zero, ℕ, [], ◌++◌, ◌+◌, ◌<◌, ◌||◌, ◌∙◌, ◌∷◌, ◌≡◌, ◌≤◌, ◌⊎◌}
+pub use Rattle.std.proofs.lemmas.{Bool.or_parts, List.append-nil, List.length-append, List.length-map, List.length-set, List.map-append}
+pub use Rattle.std.{proofs.lemmas.Option.same_Some, proofs.lemmas.Result.on_ok_weaker, specs.List.AllZip as Each}
+pub use Rattle.std.specs.Prelude.{Err, IfErr, Ok, Result, Vec, is_some}
+pub use Rattle.{std.specs.declared.alloc.Global.Global, iot_disk.specs.Disk.Arms}
 pub use Rattle.iot_exchange.{proofs.TransactionsLaws.queue_are, specs.declared.declared.DeclaredScript.DeclaredScript}
 pub use Rattle.{iot_judging.proofs.FollowingLaws.follows_kept, iot_kept.specs.States.State}
 pub use Rattle.iot_laptop.specs.{Laptops.stamps_in, Seats.IsClientImage, Seats.seating, declared.seated.Seated.Seated}

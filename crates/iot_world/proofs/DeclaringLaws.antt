@@ -13,12 +13,12 @@ use Rattle.iot_standing.{proofs.ScriptsLaws.if_more, proofs.ScriptsLaws.named_mo
 use Rattle.{iot_standing.specs.Scripts.IsNamed, iot_standing.specs.Scripts.script_named, iot_world.proofs.BeginsLaws.begins_there}
 use Rattle.iot_world.proofs.Common.{AllByRecursion, ArePlaced, Bool, ClientStands, Commit}
 use Rattle.iot_world.proofs.Common.{Counts, Declared, DeclaredScript, Each, Err, Global, HasEnds, HavingAnswered, IsBeside, IsWorldOfSome}
-use Rattle.iot_world.proofs.Common.{KeepsBeside, KeepsCommits, KeepsDisk, KeepsTrails, Laptop, LaptopHasDisk, LeavesDisks, List, Machine}
-use Rattle.iot_world.proofs.Common.{MakesStep, Medium, None, Ok, OnOk, Opens, Refines, Result, Says, ServerBegins, ServerNode, ServerStands}
-use Rattle.iot_world.proofs.Common.{Some, StandsFor, StandsIn, StepsTo, Vec, World, ap, append-nil, arith, at_each, client_at, client_count}
-use Rattle.iot_world.proofs.Common.{client_in, counts_on, disk_in, disk_of, does, drop, event_part, false, follows_kept, is_some}
-use Rattle.iot_world.proofs.Common.{length, length-append, length-map, map, map-append, names_in, no_client, on_both, or_parts, paired}
-use Rattle.iot_world.proofs.Common.{placed, quiet, refl, rules, script_names, server_name, stamps_in, subst, suc, sym, take}
+use Rattle.iot_world.proofs.Common.{KeepsBeside, KeepsCommits, KeepsDisk, KeepsTrails, Laptop, LaptopHasDisk, LeavesDisks, List}
+use Rattle.iot_world.proofs.Common.{Machine, MakesStep, Medium, None, Ok, OnOk, Opens, Refines, Result, Says, ServerBegins, ServerNode}
+use Rattle.iot_world.proofs.Common.{ServerStands, Some, StandsFor, StandsIn, StepsTo, Vec, World, ap, append-nil, arith, at_each, client_at}
+use Rattle.iot_world.proofs.Common.{client_count, client_in, counts_on, disk_in, disk_of, does, drop, event_part, false, follows_kept}
+use Rattle.iot_world.proofs.Common.{is_some, length, length-append, length-map, map, map-append, names_in, no_client, on_both, or_parts}
+use Rattle.iot_world.proofs.Common.{paired, placed, quiet, refl, rules, script_names, server_name, stamps_in, subst, suc, sym, take}
 use Rattle.iot_world.proofs.Common.{true, vec_capacity, vec_len, with_clients, with_ends, with_server, ℕ, [], ◌++◌, ◌+◌, ◌∙◌, ◌∷◌, ◌≡◌, ◌≤◌}
 use Rattle.iot_world.proofs.DisksLaws.{arms_with, clients_same, first_kept, pushed_with, server_same, unarmed_same}
 use Rattle.iot_world.proofs.{ListLaws.all_split, ListLaws.each_map, ListLaws.each_place_push, PlacesLaws.ServerFollows}

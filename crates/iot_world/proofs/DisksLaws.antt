@@ -1,11 +1,11 @@
 -- The disks of a world, from one call to the next.
 use Rattle.{std.proofs.Common.OnOk, std.proofs.Common.append_assoc, iot_machine.proofs.FollowsLaws.all_set}
-use Rattle.iot_world.proofs.Common.{AllByRecursion, Bool, Call, Each, Err, Global, HasEnds, HasPlaces, IfErr, IsBeside, IsWorldOfSome}
-use Rattle.iot_world.proofs.Common.{KeepsBeside, KeepsCommits, KeepsDisk, KeepsDisks, KeepsNode, Laptop, LaptopHasDisk, LeavesDisks}
-use Rattle.iot_world.proofs.Common.{List, Machine, MakesStep, Medium, None, Ok, Option, Result, SameArms, ServerNode, Some, StandsFor}
-use Rattle.iot_world.proofs.Common.{Vec, World, ap, arith, commits_same, disk_in, disk_of, disks_of, false, inl, is_promoted, is_some}
-use Rattle.iot_world.proofs.Common.{length, length-append, length-set, on_both, refl, same_Some, slice_get, slice_index_or, slice_set}
-use Rattle.iot_world.proofs.Common.{suc, sym, true, with_clients, with_first, zero, ℕ, [], ◌++◌, ◌+◌, ◌<◌, ◌∙◌, ◌∷◌, ◌≡◌, ◌≤◌}
+use Rattle.iot_world.proofs.Common.{AllByRecursion, Bool, Call, Each, Err, Global, HasEnds, HasPlaces, IfErr, IsBeside}
+use Rattle.iot_world.proofs.Common.{IsWorldOfSome, KeepsBeside, KeepsCommits, KeepsDisk, KeepsDisks, KeepsNode, Laptop, LaptopHasDisk}
+use Rattle.iot_world.proofs.Common.{LeavesDisks, List, Machine, MakesStep, Medium, None, Ok, Option, Result, SameArms, ServerNode, Some}
+use Rattle.iot_world.proofs.Common.{StandsFor, Vec, World, ap, arith, commits_same, disk_in, disk_of, disks_of, false, inl, is_promoted}
+use Rattle.iot_world.proofs.Common.{is_some, length, length-append, length-set, on_both, refl, same_Some, slice_get, slice_index_or}
+use Rattle.iot_world.proofs.Common.{slice_set, suc, sym, true, with_clients, with_first, zero, ℕ, [], ◌++◌, ◌+◌, ◌<◌, ◌∙◌, ◌∷◌, ◌≡◌, ◌≤◌}
 use Rattle.iot_world.proofs.ListLaws.{all_split, looked_up}
 use Rattle.iot_world.proofs.PlacesLaws.{ServerFollows, has_places, kept_server, places_list, promoted_is, same_server, server_placed}
 use Rattle.iot_world.specs.{Disks.IsUnarmed, World.AreLast, World.UnlessArmed}

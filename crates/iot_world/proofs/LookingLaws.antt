@@ -8,13 +8,12 @@ use Rattle.iot_laptop.specs.Laptops.{IsLent, IsView, LaptopStands, disk_by, is_a
 use Rattle.iot_machine.{proofs.StepsLaws.asks, proofs.StepsLaws.bind, specs.Clients.view, specs.Events.Logs}
 use Rattle.iot_machine.specs.{Json.client_data, Recorded.label_of, Recorded.labels_of, Sound.IsListed, Stops.Shows, Texts.log_text}
 use Rattle.{iot_queue.specs.declared.items.Item.Item, iot_server.specs.Servers.state_of, iot_server.specs.declared.server.Server.Server}
-use Rattle.{iot_server_node.specs.Servers.IsServerOf, iot_standing.proofs.StatesLaws.view_is}
-use Rattle.{iot_tree.specs.Tree.Nodes, iot_tree.specs.declared.labels.Label.Label}
-use Rattle.iot_world.proofs.Common.{AllByRecursion, Client}
-use Rattle.iot_world.proofs.Common.{ClientIs, ClientStands, Commit, Declared, IsWorldOfSome, Laptop, List, Machine, MakesStep, Medium, None}
-use Rattle.iot_world.proofs.Common.{Option, Post, Refines, Says, Seated, Some, StandsFor, StandsIn, Up, World, ap, arith, client_in, codes}
-use Rattle.iot_world.proofs.Common.{disk_in, either, false, inl, inr, length, length-map, line, names_in, no_client, node_part, queue_are}
-use Rattle.iot_world.proofs.Common.{refl, same_Some, says, slice_get, sym, take, true, ℕ, [], ◌++◌, ◌+◌, ◌<◌, ◌∙◌, ◌∷◌, ◌≡◌, ◌≤◌}
+use Rattle.{iot_server_node.specs.Servers.IsServerOf, iot_standing.proofs.StatesLaws.view_is, iot_tree.specs.Tree.Nodes}
+use Rattle.{iot_tree.specs.declared.labels.Label.Label, iot_world.proofs.Common.AllByRecursion, iot_world.proofs.Common.Client}
+use Rattle.iot_world.proofs.Common.{ClientIs, ClientStands, Commit, Declared, IsWorldOfSome, Laptop, List, Machine, MakesStep, Medium}
+use Rattle.iot_world.proofs.Common.{None, Option, Post, Refines, Says, Seated, Some, StandsFor, StandsIn, Up, World, ap, arith, client_in}
+use Rattle.iot_world.proofs.Common.{codes, disk_in, either, false, inl, inr, length, length-map, line, names_in, no_client, node_part}
+use Rattle.iot_world.proofs.Common.{queue_are, refl, same_Some, says, slice_get, sym, take, true, ℕ, [], ◌++◌, ◌+◌, ◌<◌, ◌∙◌, ◌∷◌, ◌≡◌, ◌≤◌}
 use Rattle.iot_world.proofs.{ListLaws.each_same_as, WorldsLaws.client_here, WorldsLaws.inside_here, WorldsLaws.same_length}
 use Rattle.iot_world.specs.{Looks.AddsTold, Looks.HasTold, Looks.Tells, Looks.client_names, Prelude.Bool, World.IsReady, World.LendsClient}
 use Rattle.serde_json.specs.Data.{Data}

@@ -1,10 +1,10 @@
 -- The first disk and the last: lists that have both, and the places of the server's two.
-use Rattle.std.proofs.{Math.Nat.add_comm, lemmas.List.same_from_push}
+use Rattle.std.{proofs.Math.Nat.add_comm, proofs.lemmas.List.same_from_push, specs.Option.option_map}
 use Rattle.iot_server_node.{proofs.BackupLaws.ArePlaced, proofs.BackupLaws.placed_in, specs.Disks.sides_of}
 use Rattle.iot_server_node.specs.{Disks.turned, Keepers.disks_in, Servers.TurnsToBackup, Servers.given_up_in, Servers.turned_post}
 use Rattle.iot_world.proofs.Common.{Arms, Between, Bool, Disks, Down, HasPlaces}
-use Rattle.iot_world.proofs.Common.{IsBeside, KeepsDisk, List, Medium, Option, Post, ServerKeeper, ServerNode, Some, Up, ap, arith, disk_of}
-use Rattle.iot_world.proofs.Common.{drop, false, inl, inr, is_promoted, is_up, length, length-append, on_both, option_map, other_of, placed}
+use Rattle.iot_world.proofs.Common.{IsBeside, KeepsDisk, List, Medium, Option, Post, ServerKeeper, ServerNode, Some, Up, ap, arith}
+use Rattle.iot_world.proofs.Common.{disk_of, drop, false, inl, inr, is_promoted, is_up, length, length-append, on_both, other_of, placed}
 use Rattle.iot_world.proofs.Common.{refl, same_Some, slice_index_or, subst, sym, true, with_ends, with_server, [], ◌+◌, ◌∙◌, ◌∷◌, ◌≡◌, ◌⊎◌}
 use Rattle.iot_world.specs.Disks.{AreTwoUnarmed, SameOrRose}
 use Rattle.iot_node.specs.Posts as posts

@@ -1,6 +1,6 @@
 -- One node of a world, or a client with the server, among all others: these stay, and each client keeps its name.
-use Rattle.std.proofs.{Common.Err, Common.IfSome, Common.Ok, Common.OnOk, Common.Result, Math.Seq.map-set_same}
-use Rattle.std.proofs.lemmas.{Option.slice_get-get_or, Option.slice_get-map, Option.slice_get_within}
+use Rattle.std.proofs.Common.{Err, IfSome, Ok, OnOk, Result}
+use Rattle.std.proofs.{Math.Seq.map-set_same, lemmas.Option.slice_get-get_or, lemmas.Option.slice_get-map, lemmas.Option.slice_get_within}
 use Rattle.{iot_disk.specs.Disk.armed_with, iot_disk.specs.declared.disk.Pick.Pick, iot_event.specs.declared.event.LinkEvent.LinkEvent}
 use Rattle.{iot_event.specs.declared.event.Task.Task, iot_exchange.specs.Pairs.AnyStands}
 use Rattle.{iot_exchange.specs.Pairs.IsStandingWith, iot_exchange.specs.Pairs.two, iot_judging.proofs.FollowingLaws.Grows}
@@ -13,14 +13,14 @@ use Rattle.iot_machine.specs.Events.{ArmsBackup, IfUp, RestartsServer, comes_bac
 use Rattle.iot_machine.specs.Machine.{arm_backup, give_up, node, pair_at, server}
 use Rattle.iot_machine.specs.{Refining.StepFrom, Serving.backup_name, Sound.IsSure, Stops.Restarts, Texts.stop_line}
 use Rattle.iot_server_node.{proofs.ServersLaws.up_is, specs.Servers.ArmsServersBackup, specs.Servers.Promotes, specs.Servers.answered_since}
-use Rattle.iot_world.proofs.Common.{ArePlaced, Arms}
-use Rattle.iot_world.proofs.Common.{Between, Bool, Call, Client, ClientStands, ClientState, Commit, Declared, DeclaredScript, Disks, Down}
-use Rattle.iot_world.proofs.Common.{Each, Event, Global, HavingAnswered, IsBeside, IsOneMoreIfAny, IsWorldOfSome, KeepsBeside, KeepsTrails}
-use Rattle.iot_world.proofs.Common.{Laptop, List, Machine, MakesStep, Medium, Node, NodeEvent, None, Option, Post, PostStands, Profile}
-use Rattle.iot_world.proofs.Common.{Refines, Says, ServerKeeper, ServerNode, ServerStands, Some, StandsAnyhow, StandsFor, StandsIn, StepsTo}
-use Rattle.iot_world.proofs.Common.{Up, Vec, World, ap, arith, at_each, client_at, client_in, codes, does, either, event_part, false}
-use Rattle.iot_world.proofs.Common.{follows_kept, inl, inr, is_promoted, is_up, kept_text, length, length-set, line, lists, map, names_in}
-use Rattle.iot_world.proofs.Common.{no_client, node_part, on_both, quiet, refl, rules, same_Some, server_name, slice_get}
+use Rattle.iot_world.proofs.Common.{ArePlaced}
+use Rattle.iot_world.proofs.Common.{Arms, Between, Bool, Call, Client, ClientStands, ClientState, Commit, Declared, DeclaredScript}
+use Rattle.iot_world.proofs.Common.{Disks, Down, Each, Event, Global, HavingAnswered, IsBeside, IsOneMoreIfAny, IsWorldOfSome, KeepsBeside}
+use Rattle.iot_world.proofs.Common.{KeepsTrails, Laptop, List, Machine, MakesStep, Medium, Node, NodeEvent, None, Option, Post, PostStands}
+use Rattle.iot_world.proofs.Common.{Profile, Refines, Says, ServerKeeper, ServerNode, ServerStands, Some, StandsAnyhow, StandsFor, StandsIn}
+use Rattle.iot_world.proofs.Common.{StepsTo, Up, Vec, World, ap, arith, at_each, client_at, client_in, codes, does, either, event_part}
+use Rattle.iot_world.proofs.Common.{false, follows_kept, inl, inr, is_promoted, is_up, kept_text, length, length-set, line, lists}
+use Rattle.iot_world.proofs.Common.{map, names_in, no_client, node_part, on_both, quiet, refl, rules, same_Some, server_name, slice_get}
 use Rattle.iot_world.proofs.Common.{slice_index_or, slice_set, stamps_in, subst, sym, true, ℕ, [], ◌++◌, ◌+◌, ◌<◌, ◌∙◌, ◌∷◌, ◌≡◌, ◌⊎◌}
 use Rattle.iot_world.proofs.ListLaws.{each_get, each_length, each_map, each_place_set, each_set, looked_up}
 use Rattle.iot_world.{proofs.PlacesLaws.promoted_is, specs.World.EventSteps, specs.World.scripts_of}

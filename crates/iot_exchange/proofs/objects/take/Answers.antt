@@ -1,6 +1,5 @@
-use Rattle.iot_exchange.proofs.Common.{sym, ◌∙◌}
-use Rattle.iot_exchange.proofs.DoesLaws.{answers, asks_then, goes_then, hands_on, no_memory, refuses}
-use Rattle.{iot_exchange.proofs.ExchangeLaws.pends_here, iot_exchange.proofs.ExchangeLaws.runs_here}
+use Rattle.iot_exchange.proofs.{Common.sym, Common.◌∙◌, DoesLaws.answers, DoesLaws.asks_then, DoesLaws.goes_then}
+use Rattle.iot_exchange.proofs.{DoesLaws.hands_on, DoesLaws.no_memory, DoesLaws.refuses, ExchangeLaws.pends_here, ExchangeLaws.runs_here}
 use Rattle.iot_exchange.proofs.objects.take.Goals as goal
 
 pub returns-then-runs : goal.returns-then-runs

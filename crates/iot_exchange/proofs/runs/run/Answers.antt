@@ -1,6 +1,5 @@
-use Rattle.iot_exchange.proofs.Common.{refl, sym, ◌∙◌}
-use Rattle.iot_exchange.proofs.DoesLaws.{answers, asks_then, goes_then, hands_on, ready_after, refuses, up_is}
-use Rattle.iot_exchange.{proofs.ExchangeLaws.full_here}
+use Rattle.iot_exchange.proofs.{Common.refl, Common.sym, Common.◌∙◌, DoesLaws.answers, DoesLaws.asks_then, DoesLaws.goes_then}
+use Rattle.iot_exchange.proofs.{DoesLaws.hands_on, DoesLaws.ready_after, DoesLaws.refuses, DoesLaws.up_is, ExchangeLaws.full_here}
 use Rattle.iot_exchange.proofs.runs.run.Goals as goal
 
 pub returns-then-is_full : goal.returns-then-is_full

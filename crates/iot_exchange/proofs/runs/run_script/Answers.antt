@@ -1,4 +1,5 @@
-use Rattle.iot_exchange.proofs.{Common.runs_through, DoesLaws.goes_then, DoesLaws.hands_on, DoesLaws.ready_after}
+use Rattle.iot_exchange.proofs.DoesLaws.{goes_then, hands_on, ready_after}
+use Rattle.iot_machine.specs.Events.{runs_through}
 use Rattle.iot_exchange.proofs.runs.run_script.Goals as goal
 
 pub returns-in_err-number : goal.returns-in_err-number

@@ -1,5 +1,5 @@
-use Rattle.iot_exchange.proofs.Common.{Transaction, ap, begin_line, option_copied, option_map, refl, sym, transaction_name, ◌++◌}
-use Rattle.iot_exchange.proofs.{Common.◌∙◌, DoesLaws.goes_then, DoesLaws.hands_on, DoesLaws.ready_after, DoesLaws.tells}
+use Rattle.iot_exchange.proofs.Common.{Transaction, ap, begin_line, option_copied, option_map, refl, sym, transaction_name, ◌++◌, ◌∙◌}
+use Rattle.iot_exchange.proofs.DoesLaws.{goes_then, hands_on, ready_after, tells}
 use Rattle.iot_exchange.proofs.TransactionsLaws.{begun_said, lent_run, none_said}
 use Rattle.iot_exchange.proofs.transactions.begin_aloud.Goals as goal
 

@@ -1,5 +1,4 @@
-use Rattle.iot_exchange.proofs.Common.{Certified, KeepsTrails, Ok}
-use Rattle.iot_exchange.proofs.Common.{Transaction, again_line, ap, compared_if, name_of, sym, ◌++◌, ◌∙◌}
+use Rattle.iot_exchange.proofs.Common.{Certified, KeepsTrails, Ok, Transaction, again_line, ap, compared_if, name_of, sym, ◌++◌, ◌∙◌}
 use Rattle.iot_exchange.proofs.DoesLaws.{asks_then, by_client, certifies_one, hands_on, keeps_more, no_memory, ready_after, refuses}
 use Rattle.iot_exchange.proofs.TransactionsLaws.{certified_then, end_again, end_joined, none_meant, not_ended, trails_found}
 use Rattle.iot_exchange.proofs.transactions.end.Goals as goal

@@ -1,4 +1,4 @@
-use Rattle.iot_world.proofs.{ListLaws.looked_up}
+use Rattle.iot_world.proofs.ListLaws.{looked_up}
 use Rattle.iot_world.proofs.LookingLaws.{lends_any, lends_disk, lends_none, lends_ready}
 use Rattle.iot_world.proofs.world.World.client.Goals as goal
 

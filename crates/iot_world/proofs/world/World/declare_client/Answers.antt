@@ -1,5 +1,5 @@
 use Rattle.iot_laptop.specs.Laptops.{stamps_by}
-use Rattle.iot_world.proofs.{Common.ap, Common.length, Common.on_ok_weaker, Common.refl, Common.[], Common.◌++◌, Common.◌∙◌, Common.◌∷◌}
+use Rattle.iot_world.proofs.Common.{ap, length, on_ok_weaker, refl, [], ◌++◌, ◌∙◌, ◌∷◌}
 use Rattle.iot_world.proofs.{DeclaringLaws.declares, DeclaringLaws.joined_leaves, DeclaringLaws.joins, DisksLaws.nothing_leaves}
 use Rattle.iot_world.proofs.world.World.declare_client.Goals as goal
 
