@@ -1,16 +1,16 @@
 -- A node over any keeper does what the machine's node does.
-use Rattle.std.proofs.Common.{Bool, Err, IsSome, List, None}
-use Rattle.std.proofs.Common.{Ok, Option, Some, ap, arith, codes, false, inl, inr, refl, subst, sym, true, ℕ, [], ◌++◌, ◌+◌, ◌==◌, ◌∙◌, ◌≡◌}
-use Rattle.std.proofs.lemmas.{Bool.Decides.nat_tests, List.append-nil}
+use Rattle.std.proofs.Common.{Bool, Err, IsSome, List, None, Ok, Option, Some, ap, arith, codes, false, inl, inr, refl, sym, true, ℕ, []}
+use Rattle.std.proofs.{Common.◌++◌, Common.◌+◌, Common.◌==◌, Common.◌∙◌, Common.◌≡◌, lemmas.Bool.Decides.nat_tests, lemmas.List.append-nil}
 use Rattle.iot_disk.specs.{Disk.armed_with, declared.disk.Pick.Pick, declared.faults.StartFault.StartFault}
-use Rattle.iot_machine.{proofs.StepsLaws.asks, proofs.StepsLaws.bind, proofs.StepsLaws.does, proofs.StepsLaws.says_this, specs.Nodes.armed}
-use Rattle.iot_machine.specs.{Nodes.back, Nodes.changed, Nodes.doubting, Nodes.opened, Refining.Refines, Stops.Appends, Stops.ArmsDisk}
-use Rattle.iot_machine.specs.{Stops.ComesBackAs, Stops.Crashes, Stops.IsStopped, Stops.OpensNode, Stops.SettlesAs, Texts.stop_line}
-use Rattle.{iot_machine.specs.Texts.stopped_line, iot_node.specs.Disks.KeepsImages, iot_node.specs.Disks.counts_on}
-use Rattle.iot_node.specs.Keeping.{Appended, Armed, CanStart, Comes, CountsStart, Doubts, EachIs, Failed, Fails, HoldSame, IsEither}
-use Rattle.iot_node.specs.{Keeping.Keeping, Posts.CameIf, Posts.DownStands}
+use Rattle.iot_machine.proofs.StepsLaws.{asks, at_each, bind, does, quiet, says_this}
+use Rattle.iot_machine.specs.{Nodes.armed, Nodes.back, Nodes.changed, Nodes.doubting, Nodes.opened, Refining.Refines}
+use Rattle.iot_machine.specs.Stops.{Appends, ArmsDisk, ComesBackAs, Crashes, IsStopped, OpensNode, SettlesAs}
+use Rattle.iot_machine.specs.Texts.{stop_line, stopped_line}
+use Rattle.iot_node.specs.Disks.{KeepsImages, counts_on}
+use Rattle.iot_node.specs.Keeping.{Appended, Armed, CanStart, Comes, Doubts, EachIs, Failed, Fails, HoldSame, IsEither, Keeping}
+use Rattle.iot_node.specs.Posts.{CameIf, DownStands}
 use Rattle.iot_node.specs.Posts.{HoldsBy, HoldsEither, IsStanding, Lasts, PostStands, Ready, StepsFrom, UpStands, back_said, disk_of, is_on}
-use Rattle.iot_node.specs.Prelude.{Between, Call, Counts, Doubt, Down, Node, Rose, Storing, Up, line, next}
+use Rattle.iot_node.specs.Prelude.{Between, Call, Counts, Doubt, Down, Node, Storing, Up, line, next}
 use Rattle.iot_node.specs.declared.post.{Fallen.Fallen, Post.Post}
 use Rattle.iot_disk.specs.declared.faults.JournalFault.TheVariants as append
 use Rattle.iot_disk.specs.declared.faults.StartFault.TheVariants as start
@@ -21,9 +21,7 @@ on_has post up = absurd cc
 
 -- inside a call that starts or stops it, a node has no disk
 pub has_disk : {K D : Type 0} (disk : K → D) (post : Post K D) → IsSome (disk_of disk post) → post ≡ Between → ⊥
-has_disk disk post has is =
-    let none = subst (λ (p : Post _ _). IsSome (disk_of disk p)) is has in
-    cc
+has_disk disk post has is = let none = rw is at has in cc
 
 -- ---- numbers of records
 
@@ -31,13 +29,8 @@ pub same_number : (number count : ℕ) → number ≡ count → (number == count
 same_number number count is = grind (arith, nat_tests)
 
 -- one record more makes another number, also modulo 2 ^ 64
-next_is_other : (count : ℕ) → next count ≡ count → ⊥
-next_is_other count is = omega (arith, is)
-
 pub next_number : (number count : ℕ) → number ≡ next count → (number == count) ≡ false
-next_number number count is =
-    let other : number ≡ count → ⊥ = λ same. next_is_other count (sym is ∙ same) in
-    grind (arith, nat_tests, other)
+next_number number count is = let other : number ≡ count → ⊥ = λ same. omega (arith, is, same) in grind (arith, nat_tests, other)
 
 -- ---- the counts of a disk
 
@@ -52,12 +45,11 @@ halted node now = record node { counts = record node.counts { faults = now.fault
 -- it is that, and what the disk counts is what it counts then
 stops : {S : Type 0} (node : Node S) (before now : Counts) → before ≡ node.counts → Failed before now
     → IsStopped node (halted node now) × (now ≡ (halted node now).counts)
-stops node before now same failed = (
-  record { faults = now.faults; rose = subst (λ (c : Counts). Rose c.faults now.faults) same failed.faults; is = refl },
-  ap (λ arms. record { faults = now.faults; arms = arms }) (failed.arms ∙ ap (λ (c : Counts). c.arms) same),
-)
+stops node before now same failed =
+    let arms = rw same at failed.arms in
+    (record { faults = now.faults; rose = rw same at failed.faults; is = refl }, (λ i. record { faults = now.faults; arms = arms i }))
 
-module _ {K S D I : Type 0} (keeping : Keeping K S D I) (medium : Storing D I) (says : S → S → List ℕ) where
+module _ {K S D I : Type 0} {disks : K → D} (keeping : Keeping K S D I disks) (medium : Storing D I) (says : S → S → List ℕ) where
   abbrev Stands : Post K D → Node S → Type 0
   Stands = PostStands keeping medium says
 
@@ -69,46 +61,41 @@ module _ {K S D I : Type 0} (keeping : Keeping K S D I) (medium : Storing D I) (
 
   -- ---- a record
 
-  pub post_goes : {T : Type 0} (done : T) (old new : K) (name : List ℕ) (change : S → S) (node : Node S) (x : List ℕ)
-      → UpStands keeping medium says old node → Appended keeping medium change node.durable old new (Ok done)
+  pub post_goes : {old new : K} (name : List ℕ) (change : S → S) {node : Node S} {x : List ℕ} → UpStands keeping medium says old node
+      → Appended keeping medium {T = Unit {0}} change node.durable old new (Ok tt)
       → StepsFrom Stands (Appends name change) node (Up new) x x true
-  post_goes done old new name change node x here kept = (
+  post_goes name change {node} {x} here kept = (
     [],
     changed change node,
     sym (append-nil x),
     inl (refl, refl, refl),
-    record {
-      alive = here.alive;
-      sure = here.sure;
-      counts = kept.1 ∙ here.counts;
-      count = next here.count;
-      stands = kept.0 here.count here.stands;
-    },
+    record { alive = here.alive; sure = here.sure; counts = kept.1 ∙ here.counts; count = _; stands = kept.0 _ here.stands },
   )
 
   pub post_stops : (old new : K) (name : List ℕ) (change : S → S) (node : Node S) (doubt : Doubt) (x y : List ℕ)
       → UpStands keeping medium says old node
       → Appended keeping medium {T = Unit {0}} change node.durable old new (Err append.Stopped) → Doubts keeping says change old doubt
       → y ≡ x ++ stopped_line name
-      → StepsFrom Stands (Appends name change) node (Down (record { disk = keeping.disk new; doubt = Some doubt })) x y false
-  post_stops old new name change node doubt x y here failed doubts wrote = (
-    stopped_line name,
-    halted (doubting change node) (counts_on medium (keeping.disk new)),
-    wrote,
-    inr (refl, refl, (stops (doubting change node) _ _ here.counts failed.1).0),
-    record {
-      alive = refl;
-      counts = (stops (doubting change node) _ _ here.counts failed.1).1;
-      count = here.count;
-      holds = record {
-        after = change node.durable;
-        is = refl;
-        each = failed.0 here.count here.stands;
-        counted = doubts.count here.count node.durable here.stands;
-        lines = doubts.lines here.count node.durable here.stands;
-      };
-    },
-  )
+      → StepsFrom Stands (Appends name change) node (Down (record { disk = disks new; doubt = Some doubt })) x y false
+  post_stops old new name change node doubt x y here failed doubts wrote =
+      let stop = stops (doubting change node) _ _ here.counts failed.1 in (
+        stopped_line name,
+        _,
+        wrote,
+        inr (refl, refl, stop.0),
+        record {
+          alive = refl;
+          counts = stop.1;
+          count = here.count;
+          holds = record {
+            after = change node.durable;
+            is = refl;
+            each = failed.0 _ here.stands;
+            counted = doubts.count _ _ here.stands;
+            lines = doubts.lines _ _ here.stands;
+          };
+        },
+      )
 
   -- ---- a crash
 
@@ -118,18 +105,13 @@ module _ {K S D I : Type 0} (keeping : Keeping K S D I) (medium : Storing D I) (
       bind {a = false} (asks (λ node here. sym (on_is post node here ∙ down))) (says_this wrote)
 
   pub post_crash_up : {keeper : K} (name : List ℕ) {x y : List ℕ}
-      → ((n : ℕ) (s : S) → keeping.stands keeper n s → EachIs (medium.may_leave (keeping.disk keeper)) (λ image. keeping.image image n s))
+      → ((n : ℕ) (s : S) → keeping.stands keeper n s → EachIs (medium.may_leave (disks keeper)) (λ image. keeping.image image n s))
       → y ≡ x ++ line (codes "crash " ++ name)
-      → Refines Stands (Crashes name) (Up keeper) (Down (record { disk = keeping.disk keeper; doubt = None })) x y tt
+      → Refines Stands (Crashes name) (Up keeper) (Down (record { disk = disks keeper; doubt = None })) x y tt
   post_crash_up {keeper = keeper} name images wrote =
       bind {v = Up keeper} {a = true} (asks (λ node here. sym here.alive)) (does (λ node here. (
         wrote,
-        record {
-          alive = refl;
-          counts = here.counts;
-          count = here.count;
-          holds = record { sure = here.sure; each = images here.count node.durable here.stands };
-        },
+        record { alive = refl; counts = here.counts; count = _; holds = record { sure = here.sure; each = images _ _ here.stands } },
       )))
 
   -- ---- the first start
@@ -138,23 +120,16 @@ module _ {K S D I : Type 0} (keeping : Keeping K S D I) (medium : Storing D I) (
       → Comes keeping medium fallen.disk made → medium.may_leave fallen.disk (medium.reads fallen.disk)
       → Refines Stands (OpensNode name) post (Up made) x x true
   post_opens {fallen = fallen} name {x} is ready comes image =
-      let none = (subst (Ready medium) is ready).0 in
-      rw is (record {
-        step = λ node here.
-            let holds = rw none at here.holds in (
-              [],
-              opened node,
-              sym (append-nil x),
-              inl (refl, refl, refl),
-              record {
-                alive = refl;
-                sure = holds.sure;
-                counts = comes.counts ∙ here.counts;
-                count = here.count;
-                stands = comes.from here.count node.durable (holds.each.each (medium.reads fallen.disk) image);
-              },
-            );
-      })
+      let none = (rw is at ready).0 in
+      rw is (at_each (λ node here.
+      let holds = rw none at here.holds in
+      quiet (opened node) (inl (refl, refl, refl)) (record {
+        alive = refl;
+        sure = holds.sure;
+        counts = comes.counts ∙ here.counts;
+        count = _;
+        stands = comes.from _ _ (holds.each.each _ image);
+      })))
 
   -- ---- it comes back
 
@@ -165,7 +140,7 @@ module _ {K S D I : Type 0} (keeping : Keeping K S D I) (medium : Storing D I) (
       × (EachIs was (λ image. IsEither keeping image n s after) → EachIs now (λ image. IsEither keeping image n s after))
 
   -- some of them do
-  pub fewer : (was now : I → Type 0) → ((image : I) → now image → was image) → HoldOn was now
+  fewer : (was now : I → Type 0) → ((image : I) → now image → was image) → HoldOn was now
   fewer was now from n s after =
       let each : (P : I → Type 0) → EachIs was P → EachIs now P = λ P all. record { each = λ image at. all.each image (from image at) } in
       (each _, each _)
@@ -180,15 +155,14 @@ module _ {K S D I : Type 0} (keeping : Keeping K S D I) (medium : Storing D I) (
     ],
   )
 
-  pub holds_on : (was now : I → Type 0) (count : ℕ) (doubt : Option Doubt) (node : Node S) (counts : Counts) (stops : ℕ) → HoldOn was now
+  holds_on : (was now : I → Type 0) (count : ℕ) (doubt : Option Doubt) (node : Node S) (counts : Counts) (stops : ℕ) → HoldOn was now
       → HoldsBy keeping medium says was count doubt node
       → HoldsBy keeping medium says now count doubt (record node { counts = counts; stops = stops })
-  holds_on was now count None node counts stops on it =
-      record { sure = it.sure; each = (on count node.durable node.durable).0 it.each }
+  holds_on was now count None node counts stops on it = record { sure = it.sure; each = (on count _ node.durable).0 it.each }
   holds_on was now count (Some doubt) node counts stops on it = record {
     after = it.after;
     is = it.is;
-    each = (on count node.durable it.after).1 it.each;
+    each = (on count _ _).1 it.each;
     counted = it.counted;
     lines = it.lines;
   }
@@ -216,7 +190,7 @@ module _ {K S D I : Type 0} (keeping : Keeping K S D I) (medium : Storing D I) (
       returns node count None counts it = (
         back node.durable node,
         rw it.sure (refl, refl),
-        comes_with node node.durable count counts (comes.from count node.durable (it.each.each (medium.reads disk) image)),
+        comes_with node node.durable count counts (comes.from _ _ (it.each.each _ image)),
       )
       returns node count (Some doubt) counts it = elim (it.each.each (medium.reads disk) image) [
         | inl is ↦
@@ -235,6 +209,30 @@ module _ {K S D I : Type 0} (keeping : Keeping K S D I) (medium : Storing D I) (
             )
       ]
 
+  -- it stops in a call that starts it
+  pub post_stops_again : (call : Call (Node S) Bool) {post : Post K D} {fallen : Fallen D} {disk left : D} {fault : StartFault}
+      (name : List ℕ) {x y : List ℕ} → post ≡ Down fallen → medium.may_leave fallen.disk (medium.reads disk)
+      → counts_on medium disk ≡ counts_on medium fallen.disk → Fails keeping medium disk left fault → fault ≡ start.Stopped
+      → ((node n : Node S) → IsStopped node n → call node (stopped_line name) false n) → y ≡ x ++ stopped_line name
+      → Refines Stands call post (Down (record { disk = left; doubt = fallen.doubt })) x y false
+  post_stops_again call {fallen = fallen} {disk} {left} name is image same fails stopped is_call wrote =
+      rw is (record {
+        step = λ node here.
+            let stop = stops node _ _ (same ∙ here.counts) (rw stopped at fails.counts) in (
+              stopped_line name,
+              _,
+              wrote,
+              is_call node _ stop.0,
+              record {
+                alive = here.alive;
+                counts = stop.1;
+                count = here.count;
+                holds = holds_on (medium.may_leave fallen.disk) (medium.may_leave left) here.count fallen.doubt node _ _
+                    (one_of (medium.may_leave fallen.disk) _ _ image fails.images) here.holds;
+              },
+            );
+      })
+
   -- ---- its disk is armed
 
   rearms : (calls : ℕ) (pick : Pick) (node : Node S) (old new : D) → counts_on medium old ≡ node.counts → Armed medium calls pick old new
@@ -242,47 +240,44 @@ module _ {K S D I : Type 0} (keeping : Keeping K S D I) (medium : Storing D I) (
   rearms calls pick node old new same it =
       it.is ∙ (λ i. record { faults = (same i).faults; arms = armed_with (same i).arms calls pick })
 
+  -- it stands for the same node, but for what that counts, if its disks count so
+  pub up_counts : {old new : K} {node : Node S} {counts : Counts} → ((n : ℕ) (s : S) → keeping.stands old n s → keeping.stands new n s)
+      → counts_on medium (disks new) ≡ counts → UpStands keeping medium says old node
+      → UpStands keeping medium says new (record node { counts = counts })
+  up_counts still same here = record { alive = here.alive; sure = here.sure; counts = same; count = _; stands = still _ _ here.stands }
+
+  pub down_counts : {old new : D} {doubt : Option Doubt} {node : Node S} {counts : Counts}
+      → KeepsImages (medium.may_leave old) (medium.may_leave new) → counts_on medium new ≡ counts
+      → DownStands keeping medium says (record { disk = old; doubt = doubt }) node
+      → DownStands keeping medium says (record { disk = new; doubt = doubt }) (record node { counts = counts })
+  down_counts {doubt = doubt} {node} images same here =
+      let on = holds_on _ _ here.count doubt node _ _ (fewer _ _ images.was) here.holds in
+      record { alive = here.alive; counts = same; count = here.count; holds = on }
+
   pub post_arms_up : {old new : K} {calls : ℕ} {pick : Pick} (name : List ℕ) {x y : List ℕ}
       → ((n : ℕ) (s : S) → keeping.stands old n s → keeping.stands new n s)
-      → Armed medium calls pick (keeping.disk old) (keeping.disk new) → y ≡ x ++ stop_line name calls pick
+      → Armed medium calls pick (disks old) (disks new) → y ≡ x ++ stop_line name calls pick
       → Refines Stands (ArmsDisk name calls pick) (Up old) (Up new) x y tt
-  post_arms_up {old} {new} {calls} {pick} name still it wrote = does (λ node here. (
-    wrote,
-    record {
-      alive = here.alive;
-      sure = here.sure;
-      counts = rearms calls pick node (keeping.disk old) (keeping.disk new) here.counts it;
-      count = here.count;
-      stands = still here.count node.durable here.stands;
-    },
-  ))
+  post_arms_up {calls = calls} {pick} name still it wrote =
+      does (λ node here. (wrote, up_counts still (rearms calls pick node _ _ here.counts it) here))
 
   pub post_arms_down : {old new : D} {doubt : Option Doubt} {calls : ℕ} {pick : Pick} (name : List ℕ) {x y : List ℕ}
       → KeepsImages (medium.may_leave old) (medium.may_leave new) → Armed medium calls pick old new
       → y ≡ x ++ stop_line name calls pick
       → Refines Stands (ArmsDisk name calls pick) (Down (record { disk = old; doubt = doubt }))
-      (Down (record { disk = new; doubt = doubt }))
-      x y tt
-  post_arms_down {old} {new} {doubt} {calls} {pick} name same it wrote = does (λ node here. (
-    wrote,
-    record {
-      alive = here.alive;
-      counts = rearms calls pick node old new here.counts it;
-      count = here.count;
-      holds = holds_on (medium.may_leave old) (medium.may_leave new) here.count doubt node _ _
-          (fewer (medium.may_leave old) (medium.may_leave new) same.was) here.holds;
-    },
-  ))
+      (Down (record { disk = new; doubt = doubt })) x y tt
+  post_arms_down {calls = calls} {pick} name images it wrote =
+      does (λ node here. (wrote, down_counts images (rearms calls pick node _ _ here.counts it) here))
 
   -- ---- what its disk holds after a start
 
   -- each image of a node that is down holds one of its states
   pub holds_each : (fallen : Fallen D) (node : Node S) (down : DownStands keeping medium says fallen node) (image : I)
-      → medium.may_leave fallen.disk image → HoldsEither keeping medium down.count node image
+      → medium.may_leave fallen.disk image → HoldsEither keeping medium down.count node.durable node.doubt image
   holds_each fallen node down image left = by fallen.doubt down.holds
     where
       by : (doubt : Option Doubt) → HoldsBy keeping medium says (medium.may_leave fallen.disk) down.count doubt node
-          → HoldsEither keeping medium down.count node image
+          → HoldsEither keeping medium down.count node.durable node.doubt image
       by None it = inl (it.each.each image left)
       by (Some doubt) it = elim (it.each.each image left) [
         | inl is ↦ inl is
@@ -291,13 +286,13 @@ module _ {K S D I : Type 0} (keeping : Keeping K S D I) (medium : Storing D I) (
 
   -- so does each of any node, if those of a live one do
   pub lasts_in : ((keeper : K) (n : ℕ) (s : S) → keeping.stands keeper n s
-      → EachIs (medium.may_leave (keeping.disk keeper)) (λ image. keeping.image image n s))
-      → (post : Post K D) (node : Node S) → Stands post node → Lasts keeping medium post node
+      → EachIs (medium.may_leave (disks keeper)) (λ image. keeping.image image n s))
+      → (post : Post K D) (node : Node S) → Stands post node → Lasts keeping medium post node.durable node.doubt
   lasts_in live (Up keeper) node here = record {
-    disk = keeping.disk keeper;
+    disk = disks keeper;
     has = refl;
     count = here.count;
-    each = record { each = λ image left. inl ((live keeper here.count node.durable here.stands).each image left) };
+    each = record { each = λ image left. inl ((live keeper _ _ here.stands).each image left) };
   }
   lasts_in live (Down fallen) node here =
       record { disk = fallen.disk; has = refl; count = here.count; each = record { each = holds_each fallen node here } }
@@ -307,14 +302,14 @@ module _ {K S D I : Type 0} (keeping : Keeping K S D I) (medium : Storing D I) (
   module _ {post : Post K D} {fallen : Fallen D} (disk : D) (node : Node S) (is : post ≡ Down fallen)
       (here : PostStands keeping medium says post node) (left : medium.may_leave fallen.disk (medium.reads disk)) where
     down : DownStands keeping medium says fallen node
-    down = subst (λ (p : Post K D). PostStands keeping medium says p node) is here
+    down = rw is at here
 
-    read : HoldsEither keeping medium down.count node (medium.reads disk)
+    read : HoldsEither keeping medium down.count node.durable node.doubt (medium.reads disk)
     read = holds_each fallen node down (medium.reads disk) left
 
-    pub lasts_up : {made : K} → Comes keeping medium disk made → Lasts keeping medium (Up made) node
+    pub lasts_up : {made : K} → Comes keeping medium disk made → Lasts keeping medium (Up made) node.durable node.doubt
     lasts_up {made} comes = record {
-      disk = keeping.disk made;
+      disk = disks made;
       has = refl;
       count = down.count;
       each = record {
@@ -328,7 +323,7 @@ module _ {K S D I : Type 0} (keeping : Keeping K S D I) (medium : Storing D I) (
     -- it came back from the image that the disk had then, which is said
     pub came : {made : K} {number : ℕ} (words x y : List ℕ) → Comes keeping medium disk made
         → ((n : ℕ) (s : S) → keeping.stands made n s → number ≡ n) → y ≡ x ++ back_said words fallen.doubt number
-        → CameIf keeping medium true post words x y node
+        → CameIf keeping medium true post words x y node.durable node.doubt
     came {number = number} words x y comes counted wrote =
         rw is
         (record {
@@ -342,41 +337,14 @@ module _ {K S D I : Type 0} (keeping : Keeping K S D I) (medium : Storing D I) (
         })
       where
         said : {n : ℕ} → number ≡ n → y ≡ x ++ back_said words fallen.doubt n
-        said is = wrote ∙ ap (λ k. x ++ back_said words fallen.doubt k) is
+        said is = rw is at wrote
 
-module _ {K S D I : Type 0} (keeping : Keeping K S D I) (medium : Storing D I) {post : Post K D} {fallen : Fallen D} {disk : D}
-    (is : post ≡ Down fallen) (standing : IsStanding keeping medium post) (image : medium.may_leave fallen.disk (medium.reads disk)) where
+module _ {K S D I : Type 0} {disks : K → D} (keeping : Keeping K S D I disks) (medium : Storing D I) {post : Post K D}
+    {fallen : Fallen D} {disk : D} (is : post ≡ Down fallen) (standing : IsStanding keeping medium post)
+    (image : medium.may_leave fallen.disk (medium.reads disk)) where
   -- what it reads as can be started
   pub can_start : CanStart keeping (medium.reads disk)
   can_start = elim (read keeping medium standing.says disk standing.node is standing.stands image) [
     | inl it ↦ record { count = _; before = _; after = standing.node.durable; either = inl it }
     | inr it ↦ record { count = _; before = _; after = _; either = inr it.2 }
   ]
-
--- it stops in a call that starts it
-pub post_stops_again : {K S D I : Type 0} (keeping : Keeping K S D I) (medium : Storing D I) (says : S → S → List ℕ)
-    (call : Call (Node S) Bool) {post : Post K D} {fallen : Fallen D} {disk left : D} {fault : StartFault} (name : List ℕ) {x y : List ℕ}
-    → post ≡ Down fallen → medium.may_leave fallen.disk (medium.reads disk) → counts_on medium disk ≡ counts_on medium fallen.disk
-    → Fails keeping medium disk left fault → fault ≡ start.Stopped
-    → ((node n : Node S) → IsStopped node n → call node (stopped_line name) false n) → y ≡ x ++ stopped_line name
-    → Refines (PostStands keeping medium says) call post (Down (record { disk = left; doubt = fallen.doubt })) x y false
-post_stops_again keeping medium says call {post} {fallen} {disk} {left} {fault} name is image same fails stopped is_call wrote =
-    rw is (record {
-      step = λ node here. (
-        stopped_line name,
-        halted node (counts_on medium left),
-        wrote,
-        is_call node _ (stops node _ _ (same ∙ here.counts) failed).0,
-        record {
-          alive = here.alive;
-          counts = (stops node _ _ (same ∙ here.counts) failed).1;
-          count = here.count;
-          holds = holds_on keeping medium says (medium.may_leave fallen.disk) (medium.may_leave left) here.count fallen.doubt node _ _
-              (one_of keeping medium says (medium.may_leave fallen.disk) (medium.may_leave left) (medium.reads disk) image fails.images)
-              here.holds;
-        },
-      );
-    })
-  where
-    failed : Failed (counts_on medium disk) (counts_on medium left)
-    failed = subst (λ (f : StartFault). CountsStart f (counts_on medium disk) (counts_on medium left)) stopped fails.counts

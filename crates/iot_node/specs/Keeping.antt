@@ -6,13 +6,12 @@ use Rattle.iot_node.specs.Prelude.{Counts, Doubt, Err, JournalFault, List, Ok, R
 use Rattle.iot_disk.specs.declared.faults.StartFault.TheVariants as start
 use Rattle.iot_disk.specs.declared.faults.JournalFault.TheVariants as append
 
--- For which state, with so many records, counted modulo 2 ^ 64, a keeper stands, and an image of its disks; which images are in the midst
--- of one record more, behind so many, which turns the first state into the second; and the keeper's disks.
-pub record Keeping (K S D I : Type 0) : Type 1 where
+-- For which state, with so many records, counted modulo 2 ^ 64, a keeper stands that has these disks, and an image of them; and which
+-- images are in the midst of one record more, behind so many, which turns the first state into the second.
+pub record Keeping (K S D I : Type 0) (disks : K → D) : Type 1 where
   pub stands : K → ℕ → S → Type 0
   pub image : I → ℕ → S → Type 0
   pub turning : I → ℕ → S → S → Type 0
-  pub disk : K → D
 
 -- each of these images is so
 pub record EachIs {I : Type 0} (images P : I → Type 0) : Type 0 where
@@ -41,7 +40,7 @@ CountsStart start.Stopped before now = Failed before now
 CountsStart start.Foreign before now = ⊥
 CountsStart (start.Damaged at) before now = ⊥
 
-module _ {K S D I : Type 0} (keeping : Keeping K S D I) where
+module _ {K S D I : Type 0} {disks : K → D} (keeping : Keeping K S D I disks) where
   -- the image stands for this state, or is in the midst of the record behind it, which makes that one
   abbrev pub IsEither : I → ℕ → S → S → Type 0
   IsEither image n s after = keeping.image image n s ⊎ keeping.turning image n s after
@@ -58,14 +57,14 @@ module _ {K S D I : Type 0} (keeping : Keeping K S D I) where
     pub stand : (n : ℕ) (s : S) → keeping.image image n s → EachIs images (λ i. keeping.image i n s)
     pub turn : (n : ℕ) (s after : S) → keeping.turning image n s after → EachIs images (λ i. keeping.turning i n s after)
 
-module _ {K S D I : Type 0} (keeping : Keeping K S D I) (medium : Storing D I) where
+module _ {K S D I : Type 0} {disks : K → D} (keeping : Keeping K S D I disks) (medium : Storing D I) where
   -- what was started stands for what the disks stood for, or for what the record makes in whose midst they were; each image still holds
   -- what they held
   pub record Comes (disk : D) (made : K) : Type 0 where
     pub from : (n : ℕ) (s : S) → keeping.image (medium.reads disk) n s → keeping.stands made n s
     pub turned : (n : ℕ) (s after : S) → keeping.turning (medium.reads disk) n s after → keeping.stands made (next n) after
-    pub images : HoldSame keeping (medium.reads disk) (medium.may_leave (keeping.disk made))
-    pub counts : counts_on medium (keeping.disk made) ≡ counts_on medium disk
+    pub images : HoldSame keeping (medium.reads disk) (medium.may_leave (disks made))
+    pub counts : counts_on medium (disks made) ≡ counts_on medium disk
 
   -- a start that failed: it was stopped, or there was no memory, and each image still holds what the disks held
   pub record Fails (disk left : D) (fault : StartFault) : Type 0 where
@@ -76,15 +75,15 @@ module _ {K S D I : Type 0} (keeping : Keeping K S D I) (medium : Storing D I) w
   abbrev pub Appended : {T : Type 0} → (S → S) → (s : S) → (old new : K) → Result T JournalFault → Type 0
   Appended change s old new (Ok _) =
       ((n : ℕ) → keeping.stands old n s → keeping.stands new (next n) (change s))
-      × (counts_on medium (keeping.disk new) ≡ counts_on medium (keeping.disk old))
+      × (counts_on medium (disks new) ≡ counts_on medium (disks old))
   Appended change s old new (Err append.NoMemory) = Unit {0}
   Appended change s old new (Err append.Stopped) =
       ((n : ℕ) → keeping.stands old n s
-      → EachIs (medium.may_leave (keeping.disk new)) (λ image. IsEither keeping image n s (change s)))
-      × Failed (counts_on medium (keeping.disk old)) (counts_on medium (keeping.disk new))
+      → EachIs (medium.may_leave (disks new)) (λ image. IsEither keeping image n s (change s)))
+      × Failed (counts_on medium (disks old)) (counts_on medium (disks new))
 
 -- how many records there were, and what this one would say
-pub record Doubts {K S D I : Type 0} (keeping : Keeping K S D I) (says : S → S → List ℕ) (change : S → S) (old : K) (doubt : Doubt)
-    : Type 0 where
+pub record Doubts {K S D I : Type 0} {disks : K → D} (keeping : Keeping K S D I disks) (says : S → S → List ℕ) (change : S → S) (old : K)
+    (doubt : Doubt) : Type 0 where
   pub count : (n : ℕ) (s : S) → keeping.stands old n s → doubt.count ≡ n
   pub lines : (n : ℕ) (s : S) → keeping.stands old n s → doubt.lines ≡ says s (change s)

@@ -60,11 +60,11 @@ Answered step answer (Err Over) = step false
 abbrev pub StepsFrom : {W M A : Type 0} → (W → M → Type 0) → Call M A → M → (new : W) → (x y : List ℕ) → A → Type 0
 StepsFrom {M = M} stands call node new x y a = (text : List ℕ) × (n : M) × (y ≡ x ++ text) × call node text a n × stands new n
 
-module _ {K S D I : Type 0} (keeping : Keeping K S D I) (medium : Storing D I) (says : S → S → List ℕ) where
+module _ {K S D I : Type 0} {disks : K → D} (keeping : Keeping K S D I disks) (medium : Storing D I) (says : S → S → List ℕ) where
   pub record UpStands (keeper : K) (node : Node S) : Type 0 where
     pub alive : node.alive ≡ true
     pub sure : node.doubt ≡ None
-    pub counts : counts_on medium (keeping.disk keeper) ≡ node.counts
+    pub counts : counts_on medium (disks keeper) ≡ node.counts
     pub count : ℕ
     pub stands : keeping.stands keeper count node.durable
 
@@ -95,38 +95,38 @@ module _ {K S D I : Type 0} (keeping : Keeping K S D I) (medium : Storing D I) (
   PostStands Between node = ⊥
 
 -- it stands for some node
-pub record IsStanding {K S D I : Type 0} (keeping : Keeping K S D I) (medium : Storing D I) (post : Post K D) : Type 0 where
+pub record IsStanding {K S D I : Type 0} {disks : K → D} (keeping : Keeping K S D I disks) (medium : Storing D I) (post : Post K D)
+    : Type 0 where
   pub says : S → S → List ℕ
   pub node : Node S
   pub stands : PostStands keeping medium says post node
 
-module _ {K S D I : Type 0} (keeping : Keeping K S D I) (medium : Storing D I) where
+module _ {K S D I : Type 0} {disks : K → D} (keeping : Keeping K S D I disks) (medium : Storing D I) where
   -- ---- what its disk holds, whatever became of a call
 
   -- what is durable, or that and the record in doubt, perhaps in its midst
-  abbrev pub HoldsEither : (count : ℕ) → Node S → I → Type 0
-  HoldsEither count node image =
-      keeping.image image count node.durable
-      ⊎ ((after : S) × (node.doubt ≡ Some after) × keeping.turning image count node.durable after)
+  abbrev pub HoldsEither : (count : ℕ) → (durable : S) → (doubt : Option S) → I → Type 0
+  HoldsEither count durable doubt image =
+      keeping.image image count durable ⊎ ((after : S) × (doubt ≡ Some after) × keeping.turning image count durable after)
 
   -- each image of its disk holds that
-  pub record Lasts (post : Post K D) (node : Node S) : Type 0 where
+  pub record Lasts (post : Post K D) (durable : S) (doubt : Option S) : Type 0 where
     pub disk : D
-    pub has : disk_of keeping.disk post ≡ Some disk
+    pub has : disk_of disks post ≡ Some disk
     pub count : ℕ
-    pub each : EachIs (medium.may_leave disk) (HoldsEither count node)
+    pub each : EachIs (medium.may_leave disk) (HoldsEither count durable doubt)
 
   -- ---- how it came back
 
   -- from one of the images that its disk might have: that decides whether the record in doubt was kept, and it is said
-  pub record CameFrom (fallen : Fallen D) (words x y : List ℕ) (node : Node S) : Type 0 where
+  pub record CameFrom (fallen : Fallen D) (words x y : List ℕ) (durable : S) (doubt : Option S) : Type 0 where
     pub image : I
     pub left : medium.may_leave fallen.disk image
     pub count : ℕ
-    pub said : ((y ≡ x ++ back_said words fallen.doubt count) × keeping.image image count node.durable)
-        ⊎ ((after : S) × (y ≡ x ++ back_said words fallen.doubt (next count)) × (node.doubt ≡ Some after)
-        × keeping.turning image count node.durable after)
+    pub said : ((y ≡ x ++ back_said words fallen.doubt count) × keeping.image image count durable)
+        ⊎ ((after : S) × (y ≡ x ++ back_said words fallen.doubt (next count)) × (doubt ≡ Some after)
+        × keeping.turning image count durable after)
 
-  abbrev pub CameIf : (on : Bool) → Post K D → (words x y : List ℕ) → Node S → Type 0
-  CameIf true (Down fallen) words x y node = CameFrom fallen words x y node
-  CameIf on post words x y node = Unit {0}
+  abbrev pub CameIf : (on : Bool) → Post K D → (words x y : List ℕ) → (durable : S) → (doubt : Option S) → Type 0
+  CameIf true (Down fallen) words x y durable doubt = CameFrom fallen words x y durable doubt
+  CameIf on post words x y durable doubt = Unit {0}

@@ -17,9 +17,11 @@ pub trait Keeper<P> {
     /// What a read of its disks gives, what a crash now may leave of them, and what they have counted.
     ghost medium: { Storing P Image };
 
-    /// For which state, with how many records modulo 2^64, a keeper at this place among its kind stands, and an image of its disks; and
-    /// its disks.
-    ghost keeping: { ℕ → Keeping Self Kept P Image };
+    /// Its disks.
+    ghost disks: { Self → P };
+
+    /// For which state, with how many records modulo 2^64, a keeper at this place among its kind stands, and an image of its disks.
+    ghost keeping: { ℕ → Keeping Self Kept P Image disks };
 
     /// What a keeper has besides, of which its disks know nothing.
     ghost Live: { Type 0 };
@@ -42,7 +44,7 @@ pub trait Keeper<P> {
         requires can { CanStart (keeping place) (medium.reads disk) }
         ensures comes { IfOk result (Comes (keeping place) medium disk) }
         ensures live { IfOk result (λ made. live made ≡ fresh) }
-        ensures beside { IfOk result (λ made. beside ((keeping place).disk made) ≡ beside disk) }
+        ensures beside { IfOk result (λ made. beside (disks made) ≡ beside disk) }
         ensures fails { IfErr result (λ refused. Fails (keeping place) medium disk refused.0 refused.1) }
         ensures left { IfErr result (λ refused. beside refused.0 ≡ beside disk) };
 
@@ -53,13 +55,13 @@ pub trait Keeper<P> {
     /// Makes a later device call of its disks fail.
     fn arm(&mut self, calls: u64, pick: Pick)
         ensures stands { (place n : ℕ) (s : Kept) → (keeping place).stands self.old n s → (keeping place).stands self.new n s }
-        ensures counts { (place : ℕ) → Armed medium calls pick ((keeping place).disk self.old) ((keeping place).disk self.new) }
+        ensures counts { Armed medium calls pick (disks self.old) (disks self.new) }
         ensures live { live self.new ≡ live self.old }
-        ensures beside { (place : ℕ) → beside ((keeping place).disk self.new) ≡ beside ((keeping place).disk self.old) };
+        ensures beside { beside (disks self.new) ≡ beside (disks self.old) };
 
     /// Gives the disks back.
     fn into_disk(self) -> P
-        ensures disk { (place : ℕ) → result ≡ (keeping place).disk self }
+        ensures disk { result ≡ disks self }
         ensures images { (place n : ℕ) (s : Kept) → (keeping place).stands self n s
             → EachIs (medium.may_leave result) (λ image. (keeping place).image image n s) };
 

@@ -70,12 +70,11 @@ impl<K: Keeper<P>, P> Post<K, P> {
         requires stands { IsStanding (K.keeping place) K.medium self.old }
         ensures step { IfOk result (λ on. (says : K.Kept → K.Kept → List ℕ)
             → Refines (PostStands (K.keeping place) K.medium says) (OpensNode name.now) self.old self.new out.old out.new on) }
-        ensures on { IfOk result (λ on. is_on self.new ≡ on) }
         ensures live { IfOk result (λ on. live_of K.live self.new ≡ if on then Some K.fresh else None) }
-        ensures disk { KeepsDisk K.medium (disk_of (K.keeping place).disk self.old) (disk_of (K.keeping place).disk self.new) }
-        ensures beside { beside_of K.beside (K.keeping place).disk self.new ≡ beside_of K.beside (K.keeping place).disk self.old }
+        ensures disk { KeepsDisk K.medium (disk_of K.disks self.old) (disk_of K.disks self.new) }
+        ensures beside { beside_of K.beside K.disks self.new ≡ beside_of K.beside K.disks self.old }
         ensures lasts { (says : K.Kept → K.Kept → List ℕ) (node : Node K.Kept)
-            → PostStands (K.keeping place) K.medium says self.old node → Lasts (K.keeping place) K.medium self.new node }
+            → PostStands (K.keeping place) K.medium says self.old node → Lasts (K.keeping place) K.medium self.new node.durable node.doubt }
         ensures text { Extends out.old out.new }
     {
         match mem::replace(self, Post::Between) {
@@ -116,7 +115,7 @@ impl<K: Keeper<P>, P> Post<K, P> {
         ensures silent { OnOk result (out.new ≡ out.old) }
         ensures stopped { IsErrOf result Over → answer ≡ Err append.Stopped }
         ensures off { IsErrOf result Over → is_on self.new ≡ false }
-        ensures disk { (place : ℕ) → disk_of (K.keeping place).disk self.new ≡ disk_of (K.keeping place).disk self.old }
+        ensures disk { disk_of K.disks self.new ≡ disk_of K.disks self.old }
     {
         match answer {
             Ok(done) => Ok(done),
@@ -134,12 +133,11 @@ impl<K: Keeper<P>, P> Post<K, P> {
     /// Goes down, with this in doubt.
     fn fall(&mut self, doubt: Option<Doubt>)
         requires { is_on self.old ≡ true }
-        ensures down { (place : ℕ) (keeper : K) → self.old ≡ Up keeper
-            → self.new ≡ Down (record { disk = (K.keeping place).disk keeper; doubt = doubt }) }
+        ensures down { (keeper : K) → self.old ≡ Up keeper → self.new ≡ Down (record { disk = K.disks keeper; doubt = doubt }) }
         ensures off { is_on self.new ≡ false }
-        ensures disk { (place : ℕ) → disk_of (K.keeping place).disk self.new ≡ disk_of (K.keeping place).disk self.old }
+        ensures disk { disk_of K.disks self.new ≡ disk_of K.disks self.old }
         ensures images { (place n : ℕ) (keeper : K) (s : K.Kept) → self.old ≡ Up keeper → (K.keeping place).stands keeper n s
-            → EachIs (K.medium.may_leave ((K.keeping place).disk keeper)) (λ image. (K.keeping place).image image n s) }
+            → EachIs (K.medium.may_leave (K.disks keeper)) (λ image. (K.keeping place).image image n s) }
     {
         match mem::replace(self, Post::Between) {
             Post::Up(keeper) => {
@@ -168,7 +166,7 @@ impl<K: Keeper<P>, P> Post<K, P> {
         ensures step { OnOk result ((place : ℕ) (says : K.Kept → K.Kept → List ℕ)
             → Refines (PostStands (K.keeping place) K.medium says) (Crashes name.now) self.old self.new out.old out.new tt) }
         ensures down { OnOk result (is_on self.new ≡ false) }
-        ensures disk { (place : ℕ) → disk_of (K.keeping place).disk self.new ≡ disk_of (K.keeping place).disk self.old }
+        ensures disk { disk_of K.disks self.new ≡ disk_of K.disks self.old }
     {
         if !self.is_up() {
             say(b"down", out)?;
@@ -198,13 +196,13 @@ impl<K: Keeper<P>, P> Post<K, P> {
         // The image that it came back from decides whether the record in doubt was kept.
         ensures came { IfOk result (λ on. (says : K.Kept → K.Kept → List ℕ) (node : Node K.Kept)
             → PostStands (K.keeping place) K.medium says self.old node
-            → CameIf (K.keeping place) K.medium on self.old (words_of by name.now) out.old out.new node) }
+            → CameIf (K.keeping place) K.medium on self.old (words_of by name.now) out.old out.new node.durable node.doubt) }
         ensures on { IfOk result (λ on. is_on self.new ≡ on) }
         ensures live { IfOk result (λ on. live_of K.live self.new ≡ if on then Some K.fresh else None) }
-        ensures disk { KeepsDisk K.medium (disk_of (K.keeping place).disk self.old) (disk_of (K.keeping place).disk self.new) }
-        ensures beside { beside_of K.beside (K.keeping place).disk self.new ≡ beside_of K.beside (K.keeping place).disk self.old }
+        ensures disk { KeepsDisk K.medium (disk_of K.disks self.old) (disk_of K.disks self.new) }
+        ensures beside { beside_of K.beside K.disks self.new ≡ beside_of K.beside K.disks self.old }
         ensures lasts { (says : K.Kept → K.Kept → List ℕ) (node : Node K.Kept)
-            → PostStands (K.keeping place) K.medium says self.old node → Lasts (K.keeping place) K.medium self.new node }
+            → PostStands (K.keeping place) K.medium says self.old node → Lasts (K.keeping place) K.medium self.new node.durable node.doubt }
     {
         match mem::replace(self, Post::Between) {
             Post::Down(Fallen { mut disk, doubt }) => {
@@ -239,8 +237,7 @@ impl<K: Keeper<P>, P> Post<K, P> {
             → Refines (PostStands (K.keeping place) K.medium says) (ArmsDisk name.now calls pick)
             self.old self.new out.old out.new tt) }
         ensures live { live_of K.live self.new ≡ live_of K.live self.old }
-        ensures beside { (place : ℕ)
-            → beside_of K.beside (K.keeping place).disk self.new ≡ beside_of K.beside (K.keeping place).disk self.old }
+        ensures beside { beside_of K.beside K.disks self.new ≡ beside_of K.beside K.disks self.old }
         ensures same { IfErr result (λ _. self.new ≡ self.old) }
         ensures text { Extends out.old out.new }
     {
@@ -254,9 +251,10 @@ impl<K: Keeper<P>, P> Post<K, P> {
     }
 
     /// Gives its disks back.
+    #[tactic(auto, using(crate::proofs::PostsLaws::has_disk))]
     pub fn into_disk(self) -> P
-        requires { (place : ℕ) → IsSome (disk_of (K.keeping place).disk self) }
-        ensures { (place : ℕ) → disk_of (K.keeping place).disk self ≡ Some result }
+        requires { IsSome (disk_of K.disks self) }
+        ensures { disk_of K.disks self ≡ Some result }
     {
         match self {
             Post::Up(keeper) => keeper.into_disk(),

@@ -1,15 +1,15 @@
 -- The server's backup: how it is armed, and how the server goes on from it.
-use Rattle.{iot_machine.specs.Nodes.armed, iot_node.proofs.PostsLaws.fewer}
-use Rattle.{iot_node.proofs.PostsLaws.holds_on, iot_node.specs.Disks.KeepsImages, iot_server_node.proofs.BeginningLaws.lasts_go_on}
-use Rattle.iot_server_node.proofs.Common.{AreSo, Bool, CameIf, ComesBackAs, Commit, Counts, Disks, Doubt, Down, HasAnswered, HoldsBy}
-use Rattle.iot_server_node.proofs.Common.{Image, KeepsCommits, Lasts, List, MayLeave, Medium, Node, None, Option, Pick, Post, PostStands}
-use Rattle.iot_server_node.proofs.Common.{Refines, ServerKeeper, ServerNode, ServerStands, Some, Up, ap, arith, arming_as, counts_on}
-use Rattle.iot_server_node.proofs.Common.{disk_of, disks_in, false, inl, inr, is_on, is_up, kept_text, lists, on_both, option_map, placed}
-use Rattle.iot_server_node.proofs.Common.{promote_words, refl, same_Some, server_name, sides_of, subst, sym, traffic_in, true, turned_post}
-use Rattle.iot_server_node.proofs.{Common.ℕ, Common.◌+◌, Common.◌∙◌, Common.◌≡◌, PairsLaws.both_so, PairsLaws.other_left}
-use Rattle.iot_server_node.{proofs.ServersLaws.Posted, proofs.ServersLaws.known_comes_back, specs.Disks.ArmsOther, specs.Disks.IsPlaced}
-use Rattle.iot_server_node.specs.{Disks.Sides, Disks.other_of, Disks.sides, Prelude.Arms, Prelude.Traffic, Prelude.armed_with}
-use Rattle.iot_server_node.specs.Servers.{ArmsServersBackup, HasBackup, HasOther, Promotes, given_up_in, is_promoted}
+use Rattle.{iot_machine.specs.Nodes.armed, iot_node.proofs.PostsLaws.down_counts, iot_node.proofs.PostsLaws.up_counts}
+use Rattle.{iot_node.specs.Disks.KeepsImages, iot_server_node.proofs.BeginningLaws.lasts_go_on, iot_server_node.proofs.Common.AreSo}
+use Rattle.iot_server_node.proofs.Common.{Bool, ComesBackAs, Commit, Counts, Disks, Doubt, Down, HasAnswered, HoldsBy, Image, KeepsCommits}
+use Rattle.iot_server_node.proofs.Common.{Lasts, List, MayLeave, Medium, Node, None, Option, Pick, Post, PostStands, Refines, ServerKeeper}
+use Rattle.iot_server_node.proofs.Common.{ServerNode, ServerStands, Some, Up, ap, arith, arming_as, counts_on, disk_of, disks_in}
+use Rattle.iot_server_node.proofs.Common.{false, inl, inr, is_on, is_up, kept_text, lists, on_both, option_map, placed, promote_words}
+use Rattle.iot_server_node.proofs.Common.{refl, same_Some, server_name, subst, sym, traffic_in, true, turned_post, ℕ, ◌+◌, ◌∙◌, ◌≡◌}
+use Rattle.iot_server_node.proofs.{PairsLaws.both_so, PairsLaws.other_left, ServersLaws.Posted, ServersLaws.known_comes_back}
+use Rattle.iot_server_node.specs.Disks.{ArmsOther, Sides, other_of, sides, sides_of}
+use Rattle.iot_server_node.specs.Prelude.{Arms, armed_with}
+use Rattle.iot_server_node.specs.Servers.{ArmsServersBackup, HasBackup, HasPlaces, Promotes, given_up_in, is_promoted}
 use Rattle.iot_node.specs.Posts as posts
 
 -- ---- which disks there are
@@ -26,9 +26,9 @@ module _ {D : Type 0} (medium : Medium D) where
       → sides_of medium (record { disk = disk; backup = backup; given_up = given_up }) ≡ sides promoted arms
       → ArePlaced (Some (record { disk = disk; backup = backup; given_up = given_up })) promoted arms
   placed_by false arms disk (Some last) None same =
-      record { first = disk; last = last; has = refl; beside = same_Some _ _ (ap (λ (s : Sides). s.backup) same) }
+      record { first = disk; last = last; has = refl; beside = same_Some _ _ (λ i. (same i).backup) }
   placed_by true arms disk None (Some first) same =
-      record { first = first; last = disk; has = refl; beside = same_Some _ _ (ap (λ (s : Sides). s.given_up) same) }
+      record { first = first; last = disk; has = refl; beside = same_Some _ _ (λ i. (same i).given_up) }
   placed_by promoted arms disk backup given_up same =
       let one = ap (λ (s : Sides). s.backup) same in
       let other = ap (λ (s : Sides). s.given_up) same in absurd cc
@@ -38,26 +38,21 @@ module _ {D : Type 0} (medium : Medium D) where
   placed_in None promoted arms is = absurd cc
   placed_in (Some disks) promoted arms is = placed_by promoted arms disks.disk disks.backup disks.given_up (same_Some _ _ is)
 
-  pub is_placed : (server : ServerNode D) → HasOther medium server → (disks : Disks D) → disk_of server ≡ Some disks → IsPlaced disks
-  is_placed server other disks has =
-      let it = placed_in (disk_of server) other.promoted other.arms other.beside.is in
-      record { promoted = other.promoted; first = it.first; last = it.last; is = same_Some _ _ (sym has ∙ it.has) }
-
+module _ {D : Type 0} where
   -- one that is down, and was not promoted, has its backup
-  down_by : (post : Post (ServerKeeper D) (Disks D)) (promoted : Bool) (arms : Arms) → is_on post ≡ false
-      → given_up_in (posts.disk_of disks_in post) ≡ false → ArePlaced (posts.disk_of disks_in post) promoted arms
+  down_by : (post : Post (ServerKeeper D) (Disks D)) (promoted : Bool) (first last : D) → is_on post ≡ false
+      → given_up_in (posts.disk_of disks_in post) ≡ false → posts.disk_of disks_in post ≡ Some (placed promoted first last)
       → HasBackup (record { post = post })
-  down_by (Down fallen) false arms off own it = record {
-    first = it.first;
-    last = it.last;
+  down_by (Down fallen) false first last off own has = record {
+    first = first;
+    last = last;
     doubt = fallen.doubt;
-    is = λ i. Down (record { disk = same_Some _ _ it.has i; doubt = fallen.doubt });
+    is = λ i. Down (record { disk = same_Some _ _ has i; doubt = fallen.doubt });
   }
-  down_by post promoted arms off own it = let given_up = ap given_up_in it.has in absurd cc
+  down_by post promoted first last off own has = let given_up = ap given_up_in has in absurd cc
 
-  pub has_backup : (server : ServerNode D) → is_up server ≡ false → is_promoted server ≡ false → HasOther medium server → HasBackup server
-  has_backup server down own other =
-      down_by server.post other.promoted other.arms down own (placed_in (disk_of server) other.promoted other.arms other.beside.is)
+  pub has_backup : (server : ServerNode D) → is_up server ≡ false → is_promoted server ≡ false → HasPlaces server → HasBackup server
+  has_backup server down own it = down_by server.post it.promoted it.first it.last down own it.has
 
 -- ---- it goes on from its backup
 
@@ -113,16 +108,6 @@ module _ {D : Type 0} (medium : Medium D) (is_image : (disk : D) → medium.may_
         holds = turned_holds first last here.count doubt (medium.arms last) node here.holds;
       }
 
--- ---- what it says and holds then does not depend on how its disk was armed
-
-module _ {D : Type 0} (medium : Medium D) (arms : Arms) (node : Node (List Commit)) where
-  came_as : (on : Bool) (post : Post (ServerKeeper D) (Disks D)) (words x y : List ℕ)
-      → CameIf (lists medium) (on_both medium) on post words x y (arming_as arms node)
-      → CameIf (lists medium) (on_both medium) on post words x y node
-  came_as true (Down fallen) words x y came =
-      record { image = came.image; left = came.left; count = came.count; said = came.said }
-  came_as on post words x y came = tt
-
 -- ---- a promotion
 
 module _ {D : Type 0} (medium : Medium D) (is_image : (disk : D) → medium.may_leave disk (medium.reads disk)) {old : ServerNode D}
@@ -145,10 +130,8 @@ module _ {D : Type 0} (medium : Medium D) (is_image : (disk : D) → medium.may_
       → HasAnswered 0 new.post → Promotes medium names old new x y
   promotes new x y same names on steps answered = record {
     step = λ node n side here beside.
-        let armed : arms ≡ side =
-        same_Some _ _ (ap (λ (s : Sides). s.backup) (same_Some _ (sides false side) (rw it.is at beside.is))) in
-        let s = steps.step (arming_as side node)
-        (subst (λ (a : Arms). Posted medium names (turned_post old.post) (arming_as a node)) armed (over here)) in
+        let armed : arms ≡ side = let is = same_Some _ (sides false side) (rw it.is at beside.is) in same_Some _ _ (λ i. (is i).backup) in
+        let s = steps.step (arming_as side node) (rw armed at (over here)) in
         let was = rw it.is at here.post in (
           s.0,
           on,
@@ -156,27 +139,16 @@ module _ {D : Type 0} (medium : Medium D) (is_image : (disk : D) → medium.may_
           s.2,
           s.3,
           record { post = s.4; known = known_comes_back names promote_words on _ s.1 s.0 s.3 here.known; answered = answered },
-          record { is = (rw it.is at same) ∙ ap (λ (c : Counts). Some (sides true c.arms)) was.counts },
+          record { is = (rw it.is at same) ∙ (λ i. Some (sides true (was.counts i).arms)) },
         );
   }
 
   pub promotes_records : (new : ServerNode D)
       → ((names : List (List ℕ)) (node : Node (List Commit)) → Posted medium names (turned_post old.post) node
-      → Lasts (lists medium) (on_both medium) new.post node) → KeepsCommits medium old new
+      → Lasts (lists medium) (on_both medium) new.post node.durable node.doubt) → KeepsCommits medium old new
   promotes_records new lasts = record {
-    keeps = λ names node n here.
-        let it = lasts names (arming_as arms node) (over here) in
-        lasts_go_on medium names new.post node here.known
-        (record { disk = it.disk; has = it.has; count = it.count; each = it.each });
+    keeps = λ names node n here. lasts_go_on medium names new.post node here.known (lasts names (arming_as arms node) (over here));
   }
-
-  pub promotes_came : (on : Bool) (names : List (List ℕ)) (n : ℕ) (node : Node (List Commit)) (x y : List ℕ)
-      → ((node : Node (List Commit)) → Posted medium names (turned_post old.post) node
-      → CameIf (lists medium) (on_both medium) on (turned_post old.post) promote_words x y node)
-      → ServerStands medium names old node n
-      → CameIf (lists medium) (on_both medium) on (turned_post old.post) promote_words x y node
-  promotes_came on names n node x y came here =
-      came_as medium arms node on (turned_post old.post) promote_words x y (came (arming_as arms node) (over here))
 
 -- ---- its backup is armed
 
@@ -208,15 +180,9 @@ module _ {D : Type 0} (medium : Medium D) (calls : ℕ) (pick : Pick) where
   arms_up was now it still live =
       arms_by (record { post = Up was }) (record { post = Up now }) (disks_in was) (disks_in now) it refl refl
       (λ names node n counts same here. record {
-        post = record {
-          alive = here.post.alive;
-          sure = here.post.sure;
-          counts = same here.post.counts;
-          count = here.post.count;
-          stands = still here.post.count node.durable here.post.stands;
-        };
+        post = up_counts (lists medium) (on_both medium) (kept_text names) still (same here.post.counts) here.post;
         known = here.known;
-        answered = ap (λ (t : Traffic). t.requests) live ∙ here.answered;
+        answered = (λ i. (live i).requests) ∙ here.answered;
       })
 
   pub arms_down : (was now : Disks D) (doubt : Option Doubt) → ArmsOther medium calls pick was now
@@ -226,15 +192,7 @@ module _ {D : Type 0} (medium : Medium D) (calls : ℕ) (pick : Pick) where
   arms_down was now doubt it images =
       arms_by (record { post = Down (record { disk = was; doubt = doubt }) })
       (record { post = Down (record { disk = now; doubt = doubt }) }) was now it refl refl (λ names node n counts same here. record {
-        post = record {
-          alive = here.post.alive;
-          counts = same here.post.counts;
-          count = here.post.count;
-          holds = holds_on (lists medium) (on_both medium) (kept_text names) (MayLeave medium was) (MayLeave medium now) here.post.count
-              doubt node counts node.stops
-              (fewer (lists medium) (on_both medium) (kept_text names) (MayLeave medium was) (MayLeave medium now) images.was)
-              here.post.holds;
-        };
+        post = down_counts (lists medium) (on_both medium) (kept_text names) images (same here.post.counts) here.post;
         known = here.known;
         answered = tt;
       })

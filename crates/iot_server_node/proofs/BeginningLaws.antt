@@ -1,14 +1,14 @@
 -- From which states each image of the server's disks goes on.
 use Rattle.iot_disk.specs.declared.faults.JournalFault.{JournalFault}
 use Rattle.{iot_durable.proofs.StandingLaws.leads_push, iot_server.specs.Faults.Stays}
-use Rattle.iot_server_node.proofs.Common.{Access, CanFollow, Commit, Cuts, Disks, EachStays, Encoded, Handles, If, Image, IsAnswered}
-use Rattle.iot_server_node.proofs.Common.{IsImage, IsMessage, IsOneMoreIfAny, IsRequest, KeepsCommits, Label, Lasts, Leads, List, Medium}
-use Rattle.iot_server_node.proofs.Common.{Node, NodeIsKnown, Option, Post, PostStands, Refuses, Request, ServerIsSound, ServerKeeper}
-use Rattle.iot_server_node.proofs.Common.{ServerNode, ServerStands, Some, StandFor, State, Storing, Two, after_commit, disk_of}
-use Rattle.iot_server_node.proofs.Common.{disks_in, if_so, images_of, inl, inr, kept_text, lists, next, on_both, reads_may_leave, refl}
-use Rattle.iot_server_node.proofs.Common.{request_spelling, rules, second_stays, state_of, state_on, store_stays, subst, sym, ℕ, [], ◌++◌}
-use Rattle.iot_server_node.proofs.{Common.◌∷◌, Common.◌≡◌, PairsLaws.server_so, PairsLaws.so_as, ServersLaws.lasts, ServersLaws.live}
-use Rattle.iot_server_node.{proofs.ServersLaws.recorded, specs.Keepers.RefusesFor}
+use Rattle.iot_server_node.proofs.Common.{Access, CanFollow, Commit, Cuts, Disks, EachStays, Encoded, Handles, If, Image}
+use Rattle.iot_server_node.proofs.Common.{IsAnswered, IsImage, IsMessage, IsRequest, KeepsCommits, Label, Lasts, Leads, List, Medium, Node}
+use Rattle.iot_server_node.proofs.Common.{NodeIsKnown, Option, Post, PostStands, Refuses, Request, ServerIsSound, ServerKeeper, ServerNode}
+use Rattle.iot_server_node.proofs.Common.{ServerStands, Some, StandFor, State, Storing, Two, after_commit, disk_of, disks_in, if_so}
+use Rattle.iot_server_node.proofs.Common.{images_of, inl, inr, kept_text, lists, next, on_both, reads_may_leave, refl, request_spelling}
+use Rattle.iot_server_node.proofs.Common.{rules, second_stays, state_of, state_on, store_stays, sym, ℕ, [], ◌++◌, ◌∷◌, ◌≡◌}
+use Rattle.iot_server_node.proofs.{PairsLaws.server_so, PairsLaws.so_as, ServersLaws.lasts, ServersLaws.live, ServersLaws.recorded}
+use Rattle.iot_server_node.specs.Keepers.{RefusesFor}
 use Rattle.iot_server_node.specs.{Records.DiskGoesOn, Records.EachGoesOn, Records.GoesOnFrom, Records.KeepsRecords, Servers.IsOneMore}
 use Rattle.iot_store.{proofs.PartsLaws.changes_if, proofs.StandingLaws.store_alone, specs.Records.IsRecord, specs.Standing.EachStandsEither}
 use Rattle.iot_disk.specs.declared.faults.JournalFault.TheVariants as append
@@ -32,7 +32,7 @@ module _ {P : Type 0} (medium : Storing P Image) where
   -- ---- what it keeps
 
   pub records_same : (old new : Option P) → new ≡ old → KeepsRecords medium old new
-  records_same old new same = record { keeps = λ from had. subst (λ (o : Option P). DiskGoesOn medium from o) (sym same) had }
+  records_same old new same = record { keeps = λ from had. rw same had }
 
   pub records_then : (old mid new : Option P) → KeepsRecords medium old mid → KeepsRecords medium mid new → KeepsRecords medium old new
   records_then old mid new one other = record { keeps = λ from had. other.keeps from (one.keeps from had) }
@@ -40,15 +40,15 @@ module _ {P : Type 0} (medium : Storing P Image) where
 module _ {D : Type 0} (medium : Medium D) where
   -- what its disks hold goes on from what is durable
   pub lasts_go_on : (names : List (List ℕ)) (post : Post (ServerKeeper D) (Disks D)) (node : Node (List Commit)) → NodeIsKnown names node
-      → Lasts (lists medium) (on_both medium) post node
-      → DiskGoesOn (on_both medium) (state_of node.durable) (posts.disk_of (lists medium).disk post)
+      → Lasts (lists medium) (on_both medium) post node.durable node.doubt
+      → DiskGoesOn (on_both medium) (state_of node.durable) (posts.disk_of disks_in post)
   lasts_go_on names post node known it =
       rw it.has
       (record {
         each = λ image there. elim (it.each.each image there) [
           | inl is ↦ so_as is (λ i. own_goes_on i it.count node.durable) (λ i j. own_goes_on j it.count node.durable)
           | inr more ↦
-              let one = subst (IsOneMoreIfAny node.durable) more.1 known.longer in
+              let one = rw more.1 at known.longer in
               let goes_on = λ (j : List ℕ). image_goes_on j (next it.count) node.durable more.0 one in
               so_as more.2 goes_on (λ i j so. elim so [
                 | inl lacks ↦ own_goes_on j it.count node.durable lacks.image
@@ -66,7 +66,8 @@ module _ {D : Type 0} (medium : Medium D) where
   -- and still does
   module _ (old new : ServerNode D) where
     pub commits_last : ((says : List Commit → List Commit → List ℕ) (node : Node (List Commit))
-        → PostStands (lists medium) (on_both medium) says old.post node → Lasts (lists medium) (on_both medium) new.post node)
+        → PostStands (lists medium) (on_both medium) says old.post node
+        → Lasts (lists medium) (on_both medium) new.post node.durable node.doubt)
         → KeepsCommits medium old new
     commits_last still =
         record { keeps = λ names node n here. lasts_go_on names new.post node here.known (still (kept_text names) node here.post) }
@@ -94,9 +95,8 @@ module _ {D : Type 0} (medium : Medium D) (is_image : (disk : D) → medium.may_
     leads_here : (records : List (List ℕ)) × Leads (rules Two) records from before
     leads_here =
         let first = (had.each _ (reads_may_leave medium is_image (disks_in was))).disk in
-        let same : first.state ≡ before =
-        store_alone medium (servers.store_of was.server) sound.stands.post.stands.synced first.state first.stands in
-        (first.records, subst (λ (s : State). Leads (rules Two) first.records from s) same first.leads)
+        let same = store_alone medium (servers.store_of was.server) sound.stands.post.stands.synced _ first.stands in
+        (first.records, rw same at first.leads)
 
     same_on : {bytes : List ℕ} → StandFor bytes before → GoesOnFrom from bytes
     same_on stands = record { state = before; stands = stands; records = leads_here.0; leads = leads_here.1 }

@@ -10,18 +10,18 @@ pub use Rattle.iot_judging.{proofs.ImagesLaws.renewed_list, proofs.ImagesLaws.st
 pub use Rattle.iot_machine.proofs.StepsLaws.{asks, bind}
 pub use Rattle.iot_machine.specs.{Calls.Call, Machine.add_commit, Nodes.Counts, Nodes.arming_as, Nodes.changed, Recorded.label_of}
 pub use Rattle.iot_machine.specs.{Refining.Refines, Serving.commit_text, Stops.Appends, Stops.ComesBackAs, Texts.promote_words}
-pub use Rattle.iot_node.specs.{Disks.OnlyImage, Disks.counts_on, Keeping.CanStart, Keeping.EachIs, Keeping.IsEither}
-pub use Rattle.iot_node.specs.{Posts.CameIf, Posts.HoldsBy, Posts.Lasts, Posts.PostStands, Posts.is_on, declared.post.Post.TheVariants.Up}
+pub use Rattle.iot_node.specs.{Disks.OnlyImage, Disks.counts_on, Keeping.CanStart, Keeping.EachIs, Keeping.IsEither, Posts.HoldsBy}
+pub use Rattle.iot_node.specs.{Posts.Lasts, Posts.PostStands, Posts.is_on, declared.post.Doubt.Doubt, declared.post.Post.TheVariants.Up}
 pub use Rattle.iot_server.specs.{Replies.IsAnswered, Replies.Submits, declared.server.Server.Server}
-pub use Rattle.iot_server_node.specs.Disks.{Image, MayLeave, MayLeaveOf, faults_in, on_both, other_in, placed, reads_may_leave, sides_of}
+pub use Rattle.iot_server_node.specs.Disks.{Image, MayLeave, MayLeaveOf, faults_in, on_both, other_in, placed, reads_may_leave}
 pub use Rattle.iot_server_node.specs.Keepers.{Both, Cuts, Handles, KeepsList, Refuses, disks_in, lists, traffic_in}
-pub use Rattle.iot_server_node.specs.{Messages.committed_since, Prelude.Commit, Prelude.Disks, Prelude.Doubt, Prelude.Down, Prelude.If}
-pub use Rattle.iot_server_node.specs.Prelude.{IsMessage, IsRequest, KeepsDisk, Leads, Medium, Node, Pick, Post, ServerKeeper, ServerNode}
-pub use Rattle.iot_server_node.specs.Prelude.{State, StepsTo, Storing, Two, kept_text, next, request_spelling, rules, server_name, state_of}
-pub use Rattle.iot_server_node.specs.{Prelude.tree_after, Records.AreImages, Records.AreSo, Servers.HasAnswered, Servers.HavingAnswered}
-pub use Rattle.iot_server_node.specs.Servers.{IsKnown, IsOneMoreIfAny, KeepsCommits, NodeIsKnown, ServerIsSound, ServerStands, disk_of}
-pub use Rattle.{iot_server_node.specs.Servers.is_up, iot_server_node.specs.Servers.turned_post, iot_slots.specs.Decoding.State as Encoded}
-pub use Rattle.iot_slots.specs.{Decoding.decoded, Slots.disk_of as disk_on, Slots.state_on, declared.slots.Slots.Slots}
+pub use Rattle.iot_server_node.specs.Prelude.{Commit, Disks, Down, If, IsMessage, IsRequest}
+pub use Rattle.iot_server_node.specs.Prelude.{KeepsDisk, Leads, Medium, Node, Pick, Post, ServerKeeper, ServerNode, State, StepsTo}
+pub use Rattle.iot_server_node.specs.Prelude.{Storing, Two, kept_text, next, request_spelling, rules, server_name, state_of, tree_after}
+pub use Rattle.iot_server_node.specs.{Records.AreImages, Records.AreSo, Servers.HasAnswered, Servers.HavingAnswered}
+pub use Rattle.iot_server_node.specs.Servers.{IsKnown, KeepsCommits, NodeIsKnown, ServerIsSound, ServerStands, disk_of, is_up, turned_post}
+pub use Rattle.iot_slots.specs.Decoding.{State as Encoded, decoded}
+pub use Rattle.iot_slots.specs.{Slots.disk_of as disk_on, Slots.state_on, declared.slots.Slots.Slots}
 pub use Rattle.iot_store.proofs.StandingLaws.{second_stays, store_counted, store_stays}
 pub use Rattle.iot_store.specs.{Numbers.number_in, Rules.header, Standing.EachStarts, Standing.EachStays, Standing.IsGrown}
 pub use Rattle.iot_store.specs.{Standing.MayFollow, Standing.StandFor, Standing.records_in, States.CanFollow, States.after_commit}

@@ -70,16 +70,14 @@ module _ {D : Type 0} (medium : Medium D) where
         by old new rose same = absurd same
 
   -- however it was answered
-  pub disks_kept : {T : Type 0} (keeper : ServerKeeper D) (now : Server D) → KeepsArms medium keeper (record keeper { server = now })
+  pub disks_kept : {T : Type 0} (keeper : ServerKeeper D) (now : Server D)
+      → medium.arms (servers.disk_of now) ≡ medium.arms (servers.disk_of keeper.server)
+      → Changes (λ old new. medium.arms (disk_on new) ≡ medium.arms (disk_on old)) (servers.second_of keeper.server) (servers.second_of now)
       → (result : Result T ServerFault) → CountsServerFaults medium result (servers.store_of keeper.server) (servers.store_of now)
       → KeepsDisk (on_both medium) (Some (disks_in keeper)) (Some (disks_in (record keeper { server = now })))
-  disks_kept keeper now arms (Err fault.Stopped) one =
-      record { was = _; now = _; old_has = refl; new_has = refl; arms = arms.first; faults = inr (failed_counts arms one).faults }
-  disks_kept keeper now arms result none = record {
-    was = _;
-    now = _;
-    old_has = refl;
-    new_has = refl;
-    arms = arms.first;
-    faults = inl (ap (λ (c : Counts). c.faults) (kept_counts arms none));
-  }
+  disks_kept keeper now arms others (Err fault.Stopped) one =
+      let kept : KeepsArms medium keeper (record keeper { server = now }) = record { first = arms; second = others; given_up = refl } in
+      record { was = _; now = _; old_has = refl; new_has = refl; arms = arms; faults = inr (failed_counts kept one).faults }
+  disks_kept keeper now arms others result none =
+      let kept : KeepsArms medium keeper (record keeper { server = now }) = record { first = arms; second = others; given_up = refl } in
+      record { was = _; now = _; old_has = refl; new_has = refl; arms = arms; faults = inl (λ i. (kept_counts kept none i).faults) }

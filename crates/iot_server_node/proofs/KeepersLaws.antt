@@ -1,17 +1,16 @@
 -- A server keeps the list of commits on its disk, a checkpoint of the first ones and a record for each of the others, as a keeper is to.
 use Rattle.std.proofs.{Common.Ok, lemmas.List.length-map}
-use Rattle.iot_durable.specs.Standing.{EachGoes, IsRenewed, MakesOf}
-use Rattle.iot_judging.proofs.ImagesLaws.{Cut, image_is, never_before, one_cut}
-use Rattle.iot_judging.specs.Records.{EncodesList, HasList}
-use Rattle.iot_server_node.proofs.Common.{AreImages, AreOf, AreSo, Both, CanFollow, CanStart, Changes, Commit, Cuts, EachIs, EachStarts}
+use Rattle.{iot_durable.specs.Standing.EachGoes, iot_durable.specs.Standing.MakesOf, iot_judging.proofs.ImagesLaws.Cut}
+use Rattle.iot_judging.{proofs.ImagesLaws.image_is, proofs.ImagesLaws.never_before, proofs.ImagesLaws.one_cut, specs.Records.EncodesList}
+use Rattle.iot_server_node.proofs.Common.{AreImages, AreOf, AreSo, Both, CanStart, Changes, Commit, Cuts, EachIs, EachStarts}
 use Rattle.iot_server_node.proofs.Common.{EachStays, Encoded, Err, If, Image, IsEither, IsImage, KeepsList, List, MayFollow, MayLeave}
 use Rattle.iot_server_node.proofs.Common.{Medium, None, Option, Result, ServerKeeper, Slots, Some, StandFor, State, add_commit, ap}
 use Rattle.iot_server_node.proofs.Common.{arith, decoded, disk_on, disks_in, if_so, images_of, inl, inr, label_of, length, length-append}
 use Rattle.iot_server_node.proofs.Common.{lists, next, on_both, option_map, reads_may_leave, renewed_list, rules, second_stays}
-use Rattle.iot_server_node.proofs.Common.{state_of, state_on, store_counted, store_stays, subst, sym, tree_after, ℕ, [], ◌+◌, ◌∙◌, ◌∷◌, ◌≡◌}
+use Rattle.iot_server_node.proofs.Common.{state_of, state_on, store_counted, store_stays, sym, tree_after, ℕ, [], ◌∙◌, ◌∷◌, ◌≡◌}
 use Rattle.iot_server_node.{proofs.PairsLaws.server_so, specs.Keepers.Each, specs.Prelude.IfOk}
-use Rattle.{iot_slots.specs.Decoding.Decoded, iot_store.proofs.PartsLaws.changes_from}
-use Rattle.iot_store.proofs.{PartsLaws.changes_map, PartsLaws.if_both, StandingLaws.second_counted, StandingLaws.store_decoded}
+use Rattle.iot_store.proofs.PartsLaws.{changes_from, changes_map, if_both}
+use Rattle.iot_store.proofs.StandingLaws.{second_counted, store_decoded}
 use Rattle.iot_server.specs.Servers as servers
 use Rattle.iot_slots.specs.Slots as slots
 
@@ -30,7 +29,7 @@ pub keeps_of : {D : Type 0} (medium : Medium D) (it : ServerKeeper D) (n : ℕ) 
 keeps_of {D} medium it n commits synced many state are = record {
   synced = synced;
   lists = record {
-    first = subst (λ (d : Decoded). HasList d commits) (store_decoded medium (servers.store_of it.server) synced) are.disk.list;
+    first = rw (store_decoded medium (servers.store_of it.server) synced) at are.disk.list;
     second = by (servers.second_of it.server) are.backup synced.disks.second synced.disks.header;
   };
   many = many;
@@ -42,8 +41,7 @@ keeps_of {D} medium it n commits synced many state are = record {
         → If (slots.IsSynced medium) second → If (λ s. slots.header_of s ≡ slots.header_of (servers.first_of it.server)) second
         → If (λ s. EncodesList (state_on medium s) commits) second
     by (Some s) is idle head =
-        subst (λ (d : Decoded). HasList d commits)
-        (ap (λ (h : List ℕ). decoded h (medium.reads (disk_on s))) (sym (head ∙ synced.header_is)) ∙ idle.encodes) is.list
+        rw (ap (λ (h : List ℕ). decoded h (medium.reads (disk_on s))) (sym (head ∙ synced.header_is)) ∙ idle.encodes) at is.list
     by None is idle head = tt
 
 -- ---- a commit that was cut off
@@ -91,10 +89,7 @@ module _ {D : Type 0} {medium : Medium D} {it : ServerKeeper D} {n : ℕ} {commi
 
   -- and one commit more is counted
   pub one_counted : (commit : Commit) → next n ≡ length (add_commit commit commits)
-  one_counted commit =
-      let more : next n ≡ n + 1 = omega (arith, as_many, is.synced.sound.few) in
-      more ∙ ap (λ (k : ℕ). k + 1) is.counted
-      ∙ sym (length-append commits (commit ∷ []))
+  one_counted commit = omega (arith, as_many, is.synced.sound.few, length-append commits (commit ∷ []))
 
   -- each image of a disk that encodes the list has it if that stays
   keeps_by : {images : List ℕ → Type 0} (encoded : Encoded) → EncodesList encoded commits
@@ -103,9 +98,9 @@ module _ {D : Type 0} {medium : Medium D} {it : ServerKeeper D} {n : ℕ} {commi
   keeps_by {images} encoded list stays bytes there =
       let e = stays.encodes bytes there in
       image_is bytes n commits e.1
-      (renewed_list encoded e.0 commits (subst (λ (s : State). IsRenewed rules encoded s e.0) is.has_state e.2) list)
+      (renewed_list encoded e.0 commits (rw is.has_state at e.2) list)
       (record {
-        stands = subst (StandFor bytes) is.has_state (stays.stands.each bytes there).stands;
+        stands = rw is.has_state at (stays.stands.each bytes there).stands;
         counted = (stays.stands.each bytes there).counted ∙ is.many;
       }) is.counted
 
@@ -136,8 +131,8 @@ module _ {D : Type 0} {medium : Medium D} {it : ServerKeeper D} {n : ℕ} {commi
         (record { label = cut.label; access = cut.access; lines = cut.lines })
         → (image : List ℕ) → images image → Cut n commits commit image
     cut_on was count makes list goes =
-        one_cut commits are n (subst (λ (s : State). CanFollow s cut.label cut.access) is.has_state cut.follows) is.counted
-        (one_counted commit) was (count ∙ is.many) (rw is.has_state at makes) list (rw is.has_state at goes)
+        one_cut commits are n (rw is.has_state at cut.follows) is.counted (one_counted commit) was (count ∙ is.many)
+        (rw is.has_state at makes) list (rw is.has_state at goes)
 
     pub cut_images : If (λ s. EachStarts (medium.may_leave (servers.disk_of now.server)) (images_of medium s))
         (servers.second_of now.server)

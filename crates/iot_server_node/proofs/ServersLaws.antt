@@ -8,13 +8,13 @@ use Rattle.iot_machine.specs.{Serving.added_text, Stops.ArmsDisk, Stops.Crashes,
 use Rattle.iot_node.proofs.PostsLaws.{lasts_in as posts_lasts_in, on_is}
 use Rattle.iot_node.specs.{Posts.IsStanding, Posts.live_of, declared.post.Post.TheVariants.Between}
 use Rattle.iot_server.specs.{Replies.EncodesAfter, Traffic.no_traffic}
-use Rattle.iot_server_node.proofs.Common.{Access, Appends, AreOf, Bool, Both, Call, CanFollow, ComesBackAs, Commit}
-use Rattle.iot_server_node.proofs.Common.{Differs, Disks, Doubt, Down, Encoded, Handles, HasAnswered, HavingAnswered, Holds, HoldsBy}
-use Rattle.iot_server_node.proofs.Common.{If, Image, IsAnswered, IsGrown, IsImage, IsKnown, IsOneMoreIfAny, KeepsDisk, KeepsList, Label}
-use Rattle.iot_server_node.proofs.Common.{Lasts, Leads, List, MayLeave, Medium, Node, NodeIsKnown, None, Option, Pick, Post, PostStands}
-use Rattle.iot_server_node.proofs.Common.{Refines, Reply, ServerIsSound, ServerKeeper, ServerNode, ServerStands, Some, State, StepsTo}
-use Rattle.iot_server_node.proofs.Common.{Storing, Submits, Two, Up, add_commit, after_commit, ap, arith, changed, commit_text, counts_on}
-use Rattle.iot_server_node.proofs.Common.{disk_of, false, header, if_so, inl, inr, is_on, is_up, kept_text, length, length-append, lists}
+use Rattle.iot_server_node.proofs.Common.{Access, Appends, AreOf, Bool, Both, Call, CanFollow, ComesBackAs}
+use Rattle.iot_server_node.proofs.Common.{Commit, Differs, Disks, Doubt, Down, Encoded, Handles, HasAnswered, HavingAnswered, Holds}
+use Rattle.iot_server_node.proofs.Common.{HoldsBy, If, Image, IsAnswered, IsGrown, IsImage, IsKnown, KeepsDisk, KeepsList, Label, Lasts}
+use Rattle.iot_server_node.proofs.Common.{Leads, List, MayLeave, Medium, Node, NodeIsKnown, None, Option, Pick, Post, PostStands, Refines}
+use Rattle.iot_server_node.proofs.Common.{Reply, ServerIsSound, ServerKeeper, ServerNode, ServerStands, Some, State, StepsTo, Storing}
+use Rattle.iot_server_node.proofs.Common.{Submits, Two, Up, add_commit, after_commit, ap, arith, changed, commit_text, counts_on, disk_of}
+use Rattle.iot_server_node.proofs.Common.{disks_in, false, header, if_so, inl, inr, is_on, is_up, kept_text, length, length-append, lists}
 use Rattle.iot_server_node.proofs.Common.{next, number_in, on_both, placed, refl, renewed_list, rules, server_name, state_is, state_of}
 use Rattle.iot_server_node.proofs.Common.{store_counted, subst, sym, traffic_in, tree_after, true, ℕ, [], ◌++◌, ◌+◌, ◌∙◌, ◌∷◌, ◌≡◌}
 use Rattle.iot_server_node.proofs.{CountsLaws.kept_counts, DisksLaws.both_only, KeepersLaws.each_on, KeepersLaws.keeps_images}
@@ -171,16 +171,16 @@ module _ {D : Type 0} (medium : Medium D) (names : List (List ℕ)) where
   up_is server node n here = on_is (lists medium) (on_both medium) (kept_text names) server.post node here.post
 
   lasts_in : (post : Post (ServerKeeper D) (Disks D)) (node : Node (List Commit)) → Posted post node
-      → Lasts (lists medium) (on_both medium) post node
+      → Lasts (lists medium) (on_both medium) post node.durable node.doubt
   lasts_in = posts_lasts_in (lists medium) (on_both medium) (kept_text names) (λ keeper n commits here. keeps_images here)
 
   pub has_disk : (post : Post (ServerKeeper D) (Disks D)) (node : Node (List Commit)) → Posted post node
-      → IsSome (posts.disk_of (lists medium).disk post)
+      → IsSome (posts.disk_of disks_in post)
   has_disk post node here = rw (lasts_in post node here).has refl
 
   -- what its disk holds
   pub lasts : (server : ServerNode D) (node : Node (List Commit)) (n : ℕ) → ServerStands medium names server node n
-      → Lasts (lists medium) (on_both medium) server.post node
+      → Lasts (lists medium) (on_both medium) server.post node.durable node.doubt
   lasts server node n here = lasts_in server.post node here.post
 
   -- ---- a request
@@ -239,14 +239,13 @@ module _ {D : Type 0} (medium : Medium D) (names : List (List ℕ)) where
               (record_is node.durable are grown.mid grown.body grown.next.spells
               (renewed_list old grown.mid node.durable (rw here.post.stands.has_state at grown.renews) list)));
           many = counted_now ∙ grown_count _ _ _ _ both.first ∙ ap next counted_before;
-          has_state =
-              made ∙ ap (λ (s : State). after_commit s label access) here.post.stands.has_state ∙ sym (state_is node.durable are);
+          has_state = made ∙ (rw here.post.stands.has_state (sym (state_is node.durable are)));
           counted = one_counted here.post.stands commit;
         })
         (record {
           durable = all_push (IsKnown names) node.durable commit known here.known.durable;
           doubt = here.known.doubt;
-          longer = subst (IsOneMoreIfAny (add_commit commit node.durable)) (sym here.post.sure) tt;
+          longer = rw here.post.sure tt;
         })
 
 -- ---- how it handles a request
@@ -277,8 +276,7 @@ pub is_standing : {D : Type 0} (medium : Medium D) (server : ServerNode D) → I
 is_standing medium server never = record {
   says = kept_text [];
   node = unopened [] (paired (counts_on medium never.first) (counts_on medium never.backup));
-  stands =
-      rw never.down (unopened_stands medium [] never.first never.backup 0 never.empty never.empty_backup).post;
+  stands = rw never.down (unopened_stands medium [] never.first never.backup 0 never.empty never.empty_backup).post;
 }
 
 -- a server that stands for some node has its disks, and they are the same if nothing is done
@@ -306,9 +304,7 @@ module _ {D : Type 0} (medium : Medium D) (names : List (List ℕ)) (name : List
     is = it.is;
     each = it.each;
     counted = it.counted;
-    lines =
-        it.lines
-        ∙ sym (same_kept names name node.durable it.after (subst (If (AreKnown names)) it.is known.doubt));
+    lines = it.lines ∙ sym (same_kept names name node.durable it.after (rw it.is at known.doubt));
   }
 
   posted_more : (post : Post (ServerKeeper D) (Disks D)) (node : Node (List Commit)) → NodeIsKnown names node

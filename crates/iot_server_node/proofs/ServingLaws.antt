@@ -1,10 +1,9 @@
 -- What the server replies to a request for objects and to a submission.
-use Rattle.std.proofs.Common.{cond, length-append, map, slice_get, ◌-◌}
-use Rattle.std.proofs.lemmas.{Bool.le-leb, Bool.lt-leb, Bool.Decides.nat_tests, Iterator.Adapters.position_from-zero}
-use Rattle.std.{proofs.lemmas.Option.slice_get_cases, specs.List.list_any, specs.List.position_from}
-use Rattle.iot_access.specs.Access.{IsAccess, TakesPlace, lines_of}
+use Rattle.std.proofs.{Common.cond, Common.length-append, Common.map, Common.slice_get, Common.◌-◌, lemmas.Bool.le-leb}
+use Rattle.std.proofs.lemmas.{Bool.lt-leb, Bool.Decides.nat_tests, Iterator.Adapters.position_from-zero, Option.slice_get_cases}
+use Rattle.{std.specs.List.list_any, std.specs.List.position_from, iot_access.specs.Access.TakesPlace, iot_access.specs.Access.lines_of}
 use Rattle.iot_acts.specs.{Traces.ActsHold, Traces.ReadsHold, Traces.after_acts, Turns.DiffersAt, Turns.reads_of, Turns.turns}
-use Rattle.{iot_certify.proofs.AccessLaws.judges as judges_acts, iot_exec.specs.Serial.run_entry, iot_exec.specs.declared.ran.Ran.Ran}
+use Rattle.{iot_certify.proofs.AccessLaws.judges as judges_acts, iot_exec.specs.Serial.run_entry}
 use Rattle.{iot_hoard.proofs.TakingLaws.pick_is, iot_hoard.specs.Picking.picked, iot_judging.proofs.JudgingLaws.access_there}
 use Rattle.iot_judging.proofs.JudgingLaws.{certified, differs_some, parts_there, parts_within, refused, same_there, takes_place_of}
 use Rattle.iot_judging.proofs.{ListsLaws.IsStamped, ListsLaws.list_stamped, RunTreesLaws.list_tree, RunTreesLaws.list_whole}
@@ -14,18 +13,18 @@ use Rattle.iot_machine.{proofs.StepsLaws.quiet, proofs.StepsLaws.says_this, spec
 use Rattle.iot_machine.specs.Serving.{Conflict, Judges, Lends, Refresh, Settled, Walk, committed, lent, number_of}
 use Rattle.{iot_machine.specs.Texts.acts_output, iot_node.specs.Keeping.Appended}
 use Rattle.{iot_node.specs.Keeping.Doubts, iot_node.specs.Posts.StepsFrom, iot_node.specs.Posts.UpStands, iot_server.specs.Replies.Answers}
-use Rattle.iot_server_node.proofs.Common.{Access, Appends, AreOf, Both, Call, CanFollow, Commit, Cuts}
-use Rattle.iot_server_node.proofs.Common.{Differs, Disks, EachIs, EachStarts, Encoded, Err, Handles, HavingAnswered, Holds, If, IsAnswered}
-use Rattle.iot_server_node.proofs.Common.{IsEither, IsGrown, IsKnown, IsMessage, IsRequest, KeepsList, Label, Leads, List, MayLeave, Medium}
-use Rattle.iot_server_node.proofs.Common.{Node, None, Option, Post, PostStands, Refuses, Reply, Request, ServerIsSound, ServerKeeper}
-use Rattle.iot_server_node.proofs.Common.{ServerNode, Some, State, StepsTo, Submits, Two, add_commit, after_commit, ap, append-nil, arith}
-use Rattle.iot_server_node.proofs.Common.{asks, bind, changed, commit_text, committed_since, disks_in, false, images_of, inl, inr, is_on}
+use Rattle.iot_server_node.proofs.Common.{Access, Appends, AreOf, Both, Call, CanFollow}
+use Rattle.iot_server_node.proofs.Common.{Commit, Cuts, Differs, Disks, EachIs, EachStarts, Encoded, Err, Handles, HavingAnswered, Holds}
+use Rattle.iot_server_node.proofs.Common.{If, IsAnswered, IsEither, IsGrown, IsKnown, IsMessage, IsRequest, KeepsList, Label, Leads, List}
+use Rattle.iot_server_node.proofs.Common.{MayLeave, Medium, Node, None, Option, Post, PostStands, Refuses, Reply, Request, ServerIsSound}
+use Rattle.iot_server_node.proofs.Common.{ServerKeeper, ServerNode, Some, State, StepsTo, Submits, Two, add_commit, after_commit, ap}
+use Rattle.iot_server_node.proofs.Common.{append-nil, arith, asks, bind, changed, commit_text, disks_in, false, images_of, inl, inr, is_on}
 use Rattle.iot_server_node.proofs.Common.{kept_text, label_of, length, lists, number_in, on_both, option_map, refl, request_spelling, rules}
 use Rattle.iot_server_node.proofs.Common.{server_name, state_is, state_of, subst, sym, tree_after, true, ℕ, [], ◌++◌, ◌+◌, ◌∙◌, ◌∷◌, ◌≡◌}
 use Rattle.iot_server_node.proofs.{CountsLaws.failed_counts, KeepersLaws.as_many, KeepersLaws.both_map, KeepersLaws.cut_images}
 use Rattle.iot_server_node.proofs.ServersLaws.{answered_off, known_stopped, live, recorded, stands_longer, stands_still}
-use Rattle.iot_server_node.specs.Messages.{SpellsCut, printed_under, said_of}
-use Rattle.iot_server_node.specs.Prelude.{Errand, Handed, IsTree, Stamps, Submission, commit_line, nodes_of}
+use Rattle.iot_server_node.specs.Messages.{SpellsCut, committed_since, printed_under, said_of}
+use Rattle.iot_server_node.specs.Prelude.{Errand, IsTree, Stamps, Submission, commit_line, nodes_of}
 use Rattle.iot_server_node.specs.Servers.{IsHanded, IsNamedIn, ServesBy, count_of, stamps_of}
 use Rattle.iot_server_node.specs.declared.{message.Message.Message, server.Served.Served}
 use Rattle.iot_stamp.specs.Refresh.{changes_on}
@@ -39,10 +38,6 @@ use Rattle.iot_machine.specs.Serving as serving
 use Rattle.iot_store.specs.States as store
 use Rattle.iot_wire.specs.declared.requests.Request.TheVariants as requests
 
--- nothing is said by a server that has as many commits as before
-nothing_said : (n : ℕ) (handed : Option Handed) → said_of (committed_since n n) handed ≡ []
-nothing_said n handed = rw (le-leb n n (omega arith)) refl
-
 -- the bytes of a message are the spelling of one request at most
 pub one_request : (message : Message) → IsOneMessage IsRequest request_spelling message.request.items
 one_request message = call_one _ _ _ request_laws message.request.items (omega (arith, message.request.ok, message.request.small))
@@ -55,10 +50,7 @@ module _ {D : Type 0} {medium : Medium D} (message : Message) (served : Served) 
   pub answers_it : {request : Request} → IsMessage IsRequest request_spelling message.request.items request
       → Both medium (λ old new. IsAnswered (servers.state_of was.server) old request served.reply.items (servers.state_of now.server) new)
       was now
-  answers_it {request} asked =
-      both_map it.handled (λ old new handled.
-      subst (λ (r : Request). IsAnswered (servers.state_of was.server) old r served.reply.items (servers.state_of now.server) new)
-      (one_request message _ _ handled.is asked) handled.answered)
+  answers_it asked = both_map it.handled (λ old new handled. rw (one_request message _ _ handled.is asked) at handled.answered)
 
   module _ (counted : served.committed ≡ committed_since (count_of (live was)) (count_of (live now))) where
     -- what is to be said, by the state after it
@@ -69,8 +61,10 @@ module _ {D : Type 0} {medium : Medium D} (message : Message) (served : Served) 
         (λ i. said_of (counted i) message.handed)
         ∙ (λ i. said_of (committed_since (length (servers.state_of was.server).labels) (length (made i).labels)) message.handed)
 
+    -- nothing is said by a server that has as many commits as before
     pub still_silent : servers.state_of now.server ≡ servers.state_of was.server → said_of served.committed message.handed ≡ []
-    still_silent made = said_by made ∙ nothing_said (length (servers.state_of was.server).labels) message.handed
+    still_silent made =
+        let n : ℕ = length (servers.state_of was.server).labels in rw (le-leb n n (omega arith)) at (said_by made)
 
 -- ---- a request for objects
 
@@ -125,7 +119,7 @@ module _ {D : Type 0} (medium : Medium D) (message : Message) (client : ℕ) (he
           errand_cut sound.node.durable sound.stands.post.stands.has_state client held errand both.first,
           λ n x.
               rw (still_silent message served it counted same, append-nil x) (gets (λ node here. (
-                ap (λ (s : State). Some (lent (nodes_of held) errand s.tree)) here.post.stands.has_state,
+                rw here.post.stands.has_state refl,
                 stands_still medium names it here (both_map both (λ old new told. (errand_leaves client held errand told).1)) same,
               ))),
         ),
@@ -142,10 +136,6 @@ module _ {D : Type 0} (medium : Medium D) (message : Message) (client : ℕ) (he
   lends_always refused = no_commit client held errand _ _ _ (one_request message _ _ refused.why.0.asked asks)
 
 -- ---- a submission
-
--- one that has one commit more is to say so
-commit_is_said : (n : ℕ) (handed : Option Handed) → said_of (committed_since n (n + 1)) handed ≡ printed_under (n + 1) handed
-commit_is_said n handed = rw (lt-leb (n + 1) n (omega arith)) refl
 
 -- ---- the number of a transaction
 
@@ -186,13 +176,13 @@ other_state before label access same =
 
 module _ {message : Message} {it : Submission} (hands : IsHanded message it) where
   open hands use {label, acts, access, submission as is}
+  open it.commit.entry use {script, kept, budget}
 
   -- on the tree of a list the access may take the place of the acts
   takes_there : (commits : List Commit) → TakesPlace access.reads access.places access.updates acts (tree_after commits)
   takes_there commits =
-      subst (λ (a : Access). IsAccess a.reads a.places a.updates acts) (sym is.has_access)
-      (takes_place_of it.commit.entry.script it.commit.entry.kept it.commit.entry.budget is.base is.base acts is.has_acts is.tree)
-      (tree_after commits) (list_tree commits) (list_whole commits)
+      rw is.has_access
+      (takes_place_of script kept budget is.base is.base acts is.has_acts is.tree _ (list_tree commits) (list_whole commits))
 
   -- a live server with a list
   module _ {D : Type 0} {medium : Medium D} {was : ServerKeeper D} {count : ℕ} {commits : List Commit}
@@ -202,7 +192,7 @@ module _ {message : Message} {it : Submission} (hands : IsHanded message it) whe
 
     module _ (hold : ReadsHold (servers.state_of was.server).tree access.reads) where
       reads_there : ReadsHold (tree_after commits) access.reads
-      reads_there = subst (λ (s : State). ReadsHold s.tree access.reads) keeps.has_state hold
+      reads_there = rw keeps.has_state at hold
 
       hold_there : ActsHold (tree_after commits) acts
       hold_there = (takes_there commits).exactly.0 reads_there
@@ -210,20 +200,16 @@ module _ {message : Message} {it : Submission} (hands : IsHanded message it) whe
       -- its script does the same there
       does_same : run_entry it.commit.entry (tree_after commits)
           ≡ record { acts = acts; tree = after_acts (tree_after commits) acts; ended = (run_entry it.commit.entry is.base).ended }
-      does_same =
-          same_there it.commit.entry.script it.commit.entry.kept it.commit.entry.budget is.base (tree_after commits) acts is.has_acts
-          (list_tree commits) hold_there
+      does_same = same_there script kept budget is.base (tree_after commits) acts is.has_acts (list_tree commits) hold_there
 
       are : AreOf it.commit (tree_after commits) label access (lines_of acts)
       are = record {
         has_label = is.has_label;
         has_access =
-            access_there it.commit.entry.script it.commit.entry.kept it.commit.entry.budget is.base (tree_after commits) acts is.has_acts
-            is.tree (list_tree commits) hold_there
-            (subst (λ (a : Access). ReadsHold (tree_after commits) a.reads) is.has_access reads_there)
-            ∙ sym is.has_access;
-        has_lines = ap (λ (ran : Ran). lines_of ran.acts) does_same;
-        made = ap (λ (ran : Ran). ran.tree) does_same ∙ sym ((takes_there commits).after hold_there);
+            access_there script kept budget is.base (tree_after commits) acts is.has_acts is.tree (list_tree commits) hold_there
+            (rw is.has_access at reads_there) ∙ sym is.has_access;
+        has_lines = (λ i. lines_of (does_same i).acts);
+        made = (λ i. (does_same i).tree) ∙ sym ((takes_there commits).after hold_there);
         spelled = is.spelled;
       }
 
@@ -260,7 +246,7 @@ module _ {message : Message} {it : Submission} (hands : IsHanded message it) whe
       leads_on = (
         record { label = label; access = access; lines = lines_of acts },
         hands.asked,
-        subst (λ (s : State). CanFollow s label access) keeps.has_state follows,
+        rw keeps.has_state at follows,
         state_is commits there_are,
       )
 
@@ -305,9 +291,7 @@ module _ {message : Message} {it : Submission} (hands : IsHanded message it) whe
         (counted : served.committed ≡ committed_since (count_of (live was)) (count_of (live now)))
         (sound : ServerIsSound medium (live was)) where
       takes_here : TakesPlace access.reads access.places access.updates acts (servers.state_of was.server).tree
-      takes_here =
-          subst (λ (s : State). TakesPlace access.reads access.places access.updates acts s.tree) (sym sound.stands.post.stands.has_state)
-          (takes_there sound.node.durable)
+      takes_here = rw sound.stands.post.stands.has_state (takes_there sound.node.durable)
 
       abbrev Serves : Type 0
       Serves =
@@ -335,7 +319,7 @@ module _ {message : Message} {it : Submission} (hands : IsHanded message it) whe
           ])
 
       spelled : {reply : Reply} → both.first.reply ≡ reply → Spells served.reply.items reply
-      spelled replied = subst (Spells served.reply.items) replied both.first.spelled
+      spelled replied = rw replied at both.first.spelled
 
       -- this is the verdict, and this is to be said
       serves : (verdict : serving.Verdict) {said : List ℕ} → SpellsVerdict it.reads served.reply.items verdict
@@ -354,9 +338,7 @@ module _ {message : Message} {it : Submission} (hands : IsHanded message it) whe
           let more : length (after_commit (servers.state_of was.server) label access).labels ≡ number + 1 =
           length-append (servers.state_of was.server).labels (label ∷ []) in
           serves (Settled (number + 1)) (inl (spelled replied))
-          (said_by message served done counted made
-          ∙ ap (λ (n : ℕ). said_of (committed_since number n) message.handed) more ∙ commit_is_said number message.handed)
-          (λ n x.
+          (rw (more, lt-leb (number + 1) number (omega arith)) at (said_by message served done counted made)) (λ n x.
           judged_well was none holds refl
           (bind {a = true}
           (at_each (λ node here.
@@ -373,8 +355,7 @@ module _ {message : Message} {it : Submission} (hands : IsHanded message it) whe
           (judges_acts (servers.state_of was.server).tree access acts (Differs place answer) takes_here judged) in
           let within =
           parts_within (reads_of acts) _ place differs.0
-          (parts_there it.commit.entry.script it.commit.entry.kept it.commit.entry.budget is.base (servers.state_of was.server).tree acts
-          is.has_acts place differs.0 differs.1) in
+          (parts_there script kept budget is.base _ acts is.has_acts place differs.0 differs.1) in
           let found : (read : Read) × (slice_get it.reads (place - 1) ≡ Some read) =
           elim (slice_get_cases it.reads (place - 1)).1 [
             | inl there ↦ (there.0, there.2)

@@ -1,10 +1,10 @@
 -- How a server's keeper starts: from a disk and its backup, or from a disk that is alone.
 use Rattle.iot_backup.specs.{Parts.IsThere, declared.faults.TwinFault.TheVariants.Disk as OfDisk}
-use Rattle.iot_durable.{proofs.ImagesLaws.not_both, specs.Causes.HasPairCause, specs.Standing.EachIsBroughtUp, specs.Standing.EachStands}
-use Rattle.{iot_durable.specs.Standing.StandWith, iot_judging.proofs.ImagesLaws.Starts, iot_judging.proofs.ImagesLaws.brought_there}
-use Rattle.iot_judging.{proofs.ImagesLaws.hold_too, proofs.ImagesLaws.kept_there, proofs.ImagesLaws.lacks_still, specs.Records.LacksCommit}
-use Rattle.{iot_node.specs.Keeping.Comes, iot_node.specs.Keeping.Fails, iot_server_node.proofs.Common.AreImages}
-use Rattle.iot_server_node.proofs.Common.{Commit, Disks, HasCause, If, Image, IsImage, KeepsList, List, MayFollow, MayLeave, Medium}
+use Rattle.iot_durable.{proofs.ImagesLaws.not_both, specs.Causes.HasPairCause}
+use Rattle.iot_durable.specs.Standing.{EachIsBroughtUp, EachStands, StandWith}
+use Rattle.iot_judging.proofs.ImagesLaws.{Starts, brought_there, hold_too, kept_there, lacks_still}
+use Rattle.{iot_judging.specs.Records.LacksCommit, iot_node.specs.Keeping.Comes, iot_node.specs.Keeping.Fails}
+use Rattle.iot_server_node.proofs.Common.{AreImages, Commit, Disks, HasCause, If, IsImage, KeepsList, List, MayFollow, MayLeave, Medium}
 use Rattle.iot_server_node.proofs.Common.{None, Only, OnlyImage, Option, Server, ServerKeeper, Slots, Some, StandFor, StartFault, State}
 use Rattle.iot_server_node.proofs.Common.{TakesBytes, ap, decoded, disk_on, disks_in, faults_in, header, images_of, inl, inr, lists, next}
 use Rattle.iot_server_node.proofs.Common.{on_both, option_map, other_in, reads_may_leave, records_in, refl, rules, same_Some, state_of, sym}
@@ -26,20 +26,15 @@ module _ {D : Type 0} (medium : Medium D) (is_image : (disk : D) → medium.may_
   -- so has each
   pub only_first : Only (medium.reads disks.disk) (medium.may_leave disks.disk)
   only_first = record {
-    is = λ i at.
-        let both = reads_may_leave medium is_image disks in
-        ap (λ (image : Image). image.disk)
-        (only.is (record { disk = i; backup = option_map medium.reads disks.backup }) (record { disk = at; backup = both.backup }));
+    is = λ i at k. (only.is (record { disk = i; backup = option_map medium.reads disks.backup })
+        (record { disk = at; backup = (reads_may_leave medium is_image disks).backup }) k).disk;
   }
 
   pub only_second : (backup : D) → disks.backup ≡ Some backup → Only (medium.reads backup) (medium.may_leave backup)
   only_second backup is = record {
     is = λ j at.
-        same_Some j (medium.reads backup)
-        (ap (λ (image : Image). image.backup)
-        (only.is (record { disk = medium.reads disks.disk; backup = Some j })
-        (record { disk = is_image disks.disk; backup = rw is at }))
-        ∙ ap (option_map medium.reads) is);
+        let image = only.is (record { disk = _; backup = Some j }) (record { disk = is_image disks.disk; backup = rw is at }) in
+        same_Some _ _ ((λ k. (image k).backup) ∙ ap (option_map medium.reads) is);
   }
 
   -- what is known of a start of the first disk
@@ -152,7 +147,7 @@ module _ {D : Type 0} (medium : Medium D) (is_image : (disk : D) → medium.may_
         → Comes (lists medium) (on_both medium) disks made
     alone_comes none alone faults =
         comes (λ n commits is. rw alone tt) (λ n commits longer is. rw alone tt)
-        (rw (alone, none) (ap (λ (k : ℕ). k + faults_in medium given_up) faults))
+        (rw (alone, none, faults) refl)
 
     pub pair_comes : {backup : D} → disks.backup ≡ Some backup → (s : Slots D) → servers.second_of it ≡ Some s
         → ((state was : State) → StandFor (medium.reads disk) state → StandFor (medium.reads backup) was

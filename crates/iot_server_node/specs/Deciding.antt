@@ -1,9 +1,8 @@
 -- If all images of the disk from which a node comes back have the record that is in doubt, or none has it, that decides whether it is kept.
 use Rattle.std.specs.Prelude.{◌++◌, ◌≡◌, ◌⊎◌}
 use Rattle.iot_machine.specs.Texts.{kept_as, lost_as, stopped_line}
-use Rattle.{iot_node.specs.declared.comeback.Comeback.Comeback, iot_server_node.specs.Disks.MayLeaveOf}
-use Rattle.iot_server_node.specs.Prelude.{Disks, Doubt, Down, List}
-use Rattle.iot_server_node.specs.Prelude.{Medium, None, Option, Post, Promote, Restart, ServerNode, Some, next, server_name, words_of, ℕ}
+use Rattle.{iot_node.specs.declared.comeback.Comeback.Comeback, iot_server_node.specs.Disks.MayLeaveOf, iot_server_node.specs.Prelude.Disks}
+use Rattle.iot_server_node.specs.Prelude.{Down, If, List, Medium, Post, Promote, Restart, ServerNode, Some, next, server_name, words_of, ℕ}
 use Rattle.iot_store.specs.Standing.{records_in}
 
 -- so many records were ever appended to the bytes, as they are counted in those of a disk of this kind
@@ -24,16 +23,11 @@ pub record DecidesBy (counted_in : List ℕ → ℕ) (images : List ℕ → Type
   pub kept : EachHas counted_in images (next count) → Begins (kept_as words) before after ⊎ Begins (stopped_line name) before after
   pub lost : EachHas counted_in images count → Begins (lost_as words) before after ⊎ Begins (stopped_line name) before after
 
-abbrev pub DecidesIfAny : (counted_in : List ℕ → ℕ) → (images : List ℕ → Type 0) → Option Doubt
-    → (words name before after : List ℕ) → Type 0
-DecidesIfAny counted_in images None words name before after = Unit {0}
-DecidesIfAny counted_in images (Some doubt) words name before after = DecidesBy counted_in images doubt.count words name before after
-
 -- a node of this name, if it is down with a record in doubt, by these images of its disks
 abbrev pub DecidesPost : {K P : Type 0} → (counted_in : List ℕ → ℕ) → (images : P → List ℕ → Type 0) → Post K P
     → (words name before after : List ℕ) → Type 0
 DecidesPost counted_in images (Down fallen) words name before after =
-    DecidesIfAny counted_in (images fallen.disk) fallen.doubt words name before after
+    If (λ doubt. DecidesBy counted_in (images fallen.disk) doubt.count words name before after) fallen.doubt
 DecidesPost counted_in images post words name before after = Unit {0}
 
 -- the images of the disk from which a server comes back so

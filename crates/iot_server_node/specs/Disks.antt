@@ -1,5 +1,5 @@
 -- The server's disks, and what a crash leaves of them.
-use Rattle.std.specs.Prelude.{◌+◌, ◌≡◌}
+use Rattle.std.specs.Prelude.{unwrap_or, ◌+◌, ◌≡◌}
 use Rattle.iot_server_node.specs.Prelude.{Arms, Bool}
 use Rattle.iot_server_node.specs.Prelude.{Disks, List, Medium, None, Option, Pick, Some, Storing, armed_with, false, option_map, true, ℕ}
 
@@ -65,26 +65,19 @@ abbrev pub other_of : {A : Type 0} → (promoted : Bool) → (first last : A) �
 other_of false first last = last
 other_of true first last = first
 
-abbrev pub first_in : {D : Type 0} → (disk : D) → (backup given_up : Option D) → D
-first_in disk (Some backup) given_up = disk
-first_in disk None (Some given_up) = given_up
-first_in disk None None = disk
-
+-- the first is the one that was given up, if one was, and the last is the backup, if there is one
 abbrev pub first_placed : {D : Type 0} → Disks D → D
-first_placed disks = first_in disks.disk disks.backup disks.given_up
-
-abbrev pub last_in : {D : Type 0} → (disk : D) → (backup : Option D) → D
-last_in disk (Some backup) = backup
-last_in disk None = disk
+first_placed disks = unwrap_or disks.given_up disks.disk
 
 abbrev pub last_placed : {D : Type 0} → Disks D → D
-last_placed disks = last_in disks.disk disks.backup
+last_placed disks = unwrap_or disks.backup disks.disk
 
-pub record IsPlaced {D : Type 0} (disks : Disks D) : Type 0 where
+-- there are disks in their places
+pub record HavePlaces {D : Type 0} (disks : Option (Disks D)) : Type 0 where
   pub promoted : Bool
   pub first : D
   pub last : D
-  pub is : disks ≡ placed promoted first last
+  pub has : disks ≡ Some (placed promoted first last)
 
 -- The first one is given up for its backup. What was given up before stands where that was: nothing, if they are in their places.
 abbrev pub turned_by : {D : Type 0} → Disks D → (backup : Option D) → Disks D

@@ -43,8 +43,8 @@ pub record KeepsList {D : Type 0} (medium : Medium D) (keeper : ServerKeeper D) 
   pub counted : count ≡ length commits
 
 -- For which list of commits a keeper stands, and an image of its disks; and which images are in the midst of one commit more.
-abbrev pub lists : {D : Type 0} → Medium D → Keeping (ServerKeeper D) (List Commit) (Disks D) Image
-lists medium = record { stands = KeepsList medium; image = AreImages; turning = AreTurning; disk = disks_in }
+abbrev pub lists : {D : Type 0} → Medium D → Keeping (ServerKeeper D) (List Commit) (Disks D) Image disks_in
+lists medium = record { stands = KeepsList medium; image = AreImages; turning = AreTurning }
 
 -- ---- requests
 

@@ -6,7 +6,7 @@ pub use Rattle.{iot_durable.specs.Standing.Leads, iot_judging.specs.Lists.state_
 pub use Rattle.iot_machine.specs.{Machine.tree_after, Nodes.Node, Refining.StepsTo, Serving.Errand, Serving.Submission, Serving.kept_text}
 pub use Rattle.{iot_machine.specs.Serving.server_name, iot_machine.specs.Texts.commit_line, iot_node.specs.Disks.IsEmpty}
 pub use Rattle.iot_node.specs.{Disks.KeepsDisk, Lines.name_of, Posts.words_of, declared.comeback.Comeback.TheVariants.Promote}
-pub use Rattle.iot_node.specs.declared.{comeback.Comeback.TheVariants.Restart, post.Doubt.Doubt, post.Post.Post, post.Post.TheVariants.Down}
+pub use Rattle.iot_node.specs.declared.{comeback.Comeback.TheVariants.Restart, post.Post.Post, post.Post.TheVariants.Down}
 pub use Rattle.{iot_server.specs.declared.traffic.Traffic.Traffic, iot_server_node.specs.declared.disks.Disks.Disks}
 pub use Rattle.iot_server_node.specs.declared.{keeper.ServerKeeper.ServerKeeper, message.Handed.Handed, server.ServerNode.ServerNode}
 pub use Rattle.iot_slots.specs.{Cells.next, declared.version.Version.TheVariants.Two}

@@ -5,11 +5,11 @@ use Rattle.iot_access.specs.Access.{access_of, lines_of}
 use Rattle.{iot_acts.specs.Turns.reads_of, iot_exec.specs.Serial.run_entry, iot_judging.specs.Entries.IsSpelledEntry}
 use Rattle.iot_machine.specs.{Calls.Call, Nodes.armed, Nodes.arming_as, Recorded.label_of, Stops.ComesBackAs}
 use Rattle.iot_machine.specs.Texts.{acts_output, promote_words, transaction_name}
-use Rattle.iot_node.specs.{Posts.PostStands, Posts.is_on, Posts.live_of, declared.lines.Transaction.Transaction}
+use Rattle.iot_node.specs.{Posts.PostStands, Posts.is_on, Posts.live_of, declared.lines.Transaction.Transaction, declared.post.Doubt.Doubt}
 use Rattle.{iot_node.specs.declared.post.Post.TheVariants.Up, iot_server.specs.declared.server.Server.Server}
-use Rattle.iot_server_node.specs.Disks.{IsPlaced, on_both, placed, sides, sides_of, turned}
+use Rattle.iot_server_node.specs.Disks.{HavePlaces, on_both, placed, sides, sides_of, turned}
 use Rattle.iot_server_node.specs.{Keepers.disks_in, Keepers.lists, Keepers.traffic_in, Messages.said_of}
-use Rattle.iot_server_node.specs.Prelude.{Arms, Bool, Commit, Disks, Doubt, Down, Handed, If, IsEmpty, IsMessage, IsRequest}
+use Rattle.iot_server_node.specs.Prelude.{Arms, Bool, Commit, Disks, Down, Handed, If, IsEmpty, IsMessage, IsRequest}
 use Rattle.iot_server_node.specs.Prelude.{IsTree, KeepsDisk, Leads, List, Medium, Node, Nodes, None, Option, Pick, Post, ServerKeeper}
 use Rattle.iot_server_node.specs.Prelude.{ServerNode, Some, Stamps, State, StepsTo, Submission, Two, armed_with, false, is_some, kept_text}
 use Rattle.iot_server_node.specs.Prelude.{length, option_map, request_spelling, rules, server_name, state_of, tree_after, true, ℕ, []}
@@ -49,13 +49,7 @@ is_promoted server = given_up_in (disk_of server)
 pub record IsBeside {D : Type 0} (medium : Medium D) (server : ServerNode D) (promoted : Bool) (arms : Arms) : Type 0 where
   pub is : option_map (sides_of medium) (disk_of server) ≡ Some (sides promoted arms)
 
--- that is so in some way
-pub record HasOther {D : Type 0} (medium : Medium D) (server : ServerNode D) : Type 0 where
-  pub promoted : Bool
-  pub arms : Arms
-  pub beside : IsBeside medium server promoted arms
-
--- and stays as it is
+-- that stays as it is
 abbrev pub KeepsBeside : {D : Type 0} → Medium D → (old new : ServerNode D) → Type 0
 KeepsBeside medium old new = (promoted : Bool) (arms : Arms) → IsBeside medium old promoted arms → IsBeside medium new promoted arms
 
@@ -65,10 +59,8 @@ pub record HasDisks {D : Type 0} (it : Server D) (disks : Option (Disks D)) : Ty
   pub is : disks ≡ Some (disks_in (record { server = it; given_up = given_up }))
 
 -- it has its disks in their places
-pub record HasPlaces {D : Type 0} (server : ServerNode D) : Type 0 where
-  pub disks : Disks D
-  pub has : disk_of server ≡ Some disks
-  pub placed : IsPlaced disks
+abbrev pub HasPlaces : {D : Type 0} → ServerNode D → Type 0
+HasPlaces server = HavePlaces (disk_of server)
 
 -- the live server itself
 abbrev pub lent_of : {D : Type 0} → ServerNode D → Option (Server D)

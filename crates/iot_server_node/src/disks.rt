@@ -1,7 +1,7 @@
 //! The server's disks.
 ghost use Rattle.std.specs.Prelude.{◌≡◌};
 ghost use Rattle.iot_node.specs.{Disks.KeepsImages, Disks.OnlyImage, Keeping.Armed};
-ghost use Rattle.iot_server_node.specs.Prelude.{false, is_some};
+ghost use Rattle.iot_server_node.specs.Prelude.{Some, false, is_some};
 
 use iot_disk::{Disk, Pick};
 use std::mem;
@@ -20,7 +20,7 @@ pub struct Disks<D> {
 }
 
 impl<D: Disk> Disks<D> {
-    ghost use Rattle.iot_server_node.specs.Disks.{ArmsOther, IsPlaced, on_both, placed, sides_of, turned};
+    ghost use Rattle.iot_server_node.specs.Disks.{ArmsOther, HavePlaces, on_both, placed, sides_of, turned};
 
     /// Starts the disk and its backup again, as after a crash: they read as one of their images, which is then the only one.
     #[tactic(auto, using(crate::proofs::DisksLaws::both_only))]
@@ -73,7 +73,7 @@ impl<D: Disk> Disks<D> {
 
     /// The first disk and the last.
     pub(crate) fn into_places(self) -> (D, D)
-        requires { IsPlaced self }
+        requires { HavePlaces (Some self) }
         ensures { self ≡ placed (is_some self.given_up) result.0 result.1 }
     {
         match (self.backup, self.given_up) {

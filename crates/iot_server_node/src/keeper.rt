@@ -22,7 +22,7 @@ pub struct ServerKeeper<D: Disk> {
 }
 
 impl<D: Disk> ServerKeeper<D> {
-    ghost use Rattle.iot_server_node.specs.Disks.{ArmsOther, IsPlaced, on_both, sides_of};
+    ghost use Rattle.iot_server_node.specs.Disks.{ArmsOther, HavePlaces, on_both, sides_of};
     ghost use Rattle.iot_server_node.specs.Keepers.{Handles, Refuses, disks_in, lists, traffic_in};
     ghost use Rattle.iot_server_node.specs.Prelude.{Commit, List, ℕ};
 
@@ -47,7 +47,7 @@ impl<D: Disk> ServerKeeper<D> {
 
     /// Makes a later device call of the backup fail, or of the server's own disk if that was promoted.
     pub(crate) fn arm_other(&mut self, calls: u64, pick: Pick)
-        requires { IsPlaced (disks_in self.old) }
+        requires { HavePlaces (Some (disks_in self.old)) }
         ensures arms { ArmsOther D.medium calls pick (disks_in self.old) (disks_in self.new) }
         ensures stands { (n : ℕ) (commits : List Commit) → (lists D.medium).stands self.old n commits
             → (lists D.medium).stands self.new n commits }
@@ -60,13 +60,15 @@ impl<D: Disk> ServerKeeper<D> {
 
 impl<D: Disk> Keeper<Disks<D>> for ServerKeeper<D> {
     ghost use Rattle.iot_server_node.specs.Disks.{Image as DisksImage, Sides, on_both, reads_may_leave, sides_of};
-    ghost use Rattle.iot_server_node.specs.{Keepers.lists, Keepers.traffic_in, Prelude.Commit, Prelude.List};
+    ghost use Rattle.iot_server_node.specs.{Keepers.disks_in, Keepers.lists, Keepers.traffic_in, Prelude.Commit, Prelude.List};
 
     ghost Kept = { List Commit };
 
     ghost Image = { DisksImage };
 
     ghost medium = { on_both D.medium };
+
+    ghost disks = { disks_in };
 
     // There is one server alone, so its place says nothing.
     ghost keeping = { λ place. lists D.medium };

@@ -43,7 +43,7 @@ pub struct Served {
 impl<D: Disk> ServerNode<D> {
     ghost use Rattle.iot_judging.specs.Verdicts.{SpellsVerdict};
     ghost use Rattle.iot_server_node.specs.Messages.{IsSomeRequest, SpellsCut};
-    ghost use Rattle.iot_server_node.specs.Servers.{ArmsServersBackup, HasBackup, HasDisk, HasDisks, HasOther, HasPlaces, HavingAnswered};
+    ghost use Rattle.iot_server_node.specs.Servers.{ArmsServersBackup, HasBackup, HasDisk, HasDisks, HasPlaces, HavingAnswered};
     ghost use Rattle.iot_server_node.specs.Servers.{IsBeside, IsHanded, IsNamedIn, IsUnopened, KeepsBeside, KeepsCommits, LendsServer};
     ghost use Rattle.iot_server_node.specs.Servers.{Promotes, ServerIsSound, ServerStands, ServesBy, TurnsToBackup, answered_since};
     ghost use Rattle.iot_server_node.specs.Servers.{count_of, disk_of, is_promoted, is_up, lent_of, post_of, stamps_of, turned_post};
@@ -143,7 +143,6 @@ impl<D: Disk> ServerNode<D> {
     /// Loses its memory: what is not on its disks is gone.
     pub fn crash(&mut self, out: &mut Text) -> Result<(), NoMemory>
         requires { HasDisk self.old }
-        ensures down { OnOk result (is_up self.new ≡ false) }
         ensures step { OnOk result ((names : List (List ℕ)) (n : ℕ)
             → StepsTo (HavingAnswered D.medium names n) (HavingAnswered D.medium names n) (Crashes server_name)
             self.old self.new out.old out.new tt) }
@@ -169,7 +168,7 @@ impl<D: Disk> ServerNode<D> {
         ensures came { OnOk result ((names : List (List ℕ)) (n : ℕ) (node : Node (List Commit))
             → ServerStands D.medium names self.old node n
             → CameIf (lists D.medium) (on_both D.medium) (is_up self.new) (post_of self.old) (words_of Restart server_name)
-            out.old out.new node) }
+            out.old out.new node.durable node.doubt) }
 
         // So if all images of its disk have the commit that is in doubt, or none has it, that decides whether it is kept.
         ensures decided { OnOk result (DecidesServer D.medium Restart self.old out.old out.new) }
@@ -192,7 +191,7 @@ impl<D: Disk> ServerNode<D> {
     #[tactic(auto, using(crate::proofs::BeginningLaws::commits_same))]
     pub fn promote(&mut self, alloc: Global, out: &mut Text) -> Result<(), NoMemory>
         requires sound { ServerIsSound D.medium self.old }
-        requires other { HasOther D.medium self.old }
+        requires places { HasPlaces self.old }
         ensures up { is_up self.old ≡ true → OnOk result (out.new ≡ out.old ++ line (codes "up")) }
         ensures nothing { is_up self.old ≡ false → is_promoted self.old ≡ true
             → OnOk result (out.new ≡ out.old ++ line (codes "nothing")) }
@@ -205,7 +204,7 @@ impl<D: Disk> ServerNode<D> {
         ensures came { is_promoted self.old ≡ false → OnOk result ((names : List (List ℕ)) (n : ℕ) (node : Node (List Commit))
             → ServerStands D.medium names self.old node n
             → CameIf (lists D.medium) (on_both D.medium) (is_up self.new) (turned_post (post_of self.old))
-            (words_of Promote server_name) out.old out.new node) }
+            (words_of Promote server_name) out.old out.new node.durable node.doubt) }
 
         // So if all images of the backup have the commit that is in doubt, or none has it, that decides whether it is kept.
         ensures decided { is_promoted self.old ≡ false → OnOk result (DecidesServer D.medium Promote self.old out.old out.new) }
@@ -226,10 +225,11 @@ impl<D: Disk> ServerNode<D> {
     }
 
     /// Gives its first disk up for its backup.
+    #[tactic(auto, using(crate::proofs::BackupLaws::has_backup))]
     fn turn(&mut self)
         requires down { is_up self.old ≡ false }
         requires own { is_promoted self.old ≡ false }
-        requires other { HasOther D.medium self.old }
+        requires places { HasPlaces self.old }
         ensures down { HasBackup self.old }
         ensures turned { post_of self.new ≡ turned_post (post_of self.old) }
     {
@@ -241,12 +241,10 @@ impl<D: Disk> ServerNode<D> {
 
     /// Makes a later call of its disk fail, and says so.
     pub fn arm(&mut self, calls: u64, pick: Pick, out: &mut Text) -> Result<(), NoMemory>
-        requires { HasDisk self.old }
         ensures step { OnOk result ((names : List (List ℕ)) (n : ℕ)
             → StepsTo (HavingAnswered D.medium names n) (HavingAnswered D.medium names n) (ArmsDisk server_name calls pick)
             self.old self.new out.old out.new tt) }
         ensures same { IfErr result (λ _. self.new ≡ self.old) }
-        ensures disk { IfErr result (λ _. KeepsDisk (on_both D.medium) (disk_of self.old) (disk_of self.new)) }
         ensures beside { KeepsBeside D.medium self.old self.new }
         ensures text { Extends out.old out.new }
     {
@@ -255,7 +253,7 @@ impl<D: Disk> ServerNode<D> {
 
     /// Makes a later call of its backup fail, or of its own disk if the backup was promoted, and says so.
     pub fn arm_backup(&mut self, calls: u64, pick: Pick, out: &mut Text) -> Result<(), NoMemory>
-        requires { HasOther D.medium self.old }
+        requires { HasPlaces self.old }
         ensures said { OnOk result (out.new ≡ out.old ++ stop_line backup_name calls pick) }
         ensures step { OnOk result ((promoted : Bool) → ArmsServersBackup D.medium calls pick promoted self.old self.new) }
         ensures same { IfErr result (λ _. self.new ≡ self.old) }
@@ -350,8 +348,5 @@ fn doubt_behind(alloc: Global, count: u64, message: &Message) -> Result<Doubt, N
 fn committed_by(before: u64, now: u64) -> Option<u64>
     ensures { result ≡ committed_since before now }
 {
-    if now <= before {
-        return None;
-    }
-    Some(now)
+    (now > before).then_some(now)
 }

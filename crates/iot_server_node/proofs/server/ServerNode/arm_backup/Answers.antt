@@ -1,10 +1,5 @@
-use Rattle.iot_server_node.proofs.{BackupLaws.arms_down, BackupLaws.arms_up, BackupLaws.is_placed, Common.ap, Common.disks_in}
-use Rattle.iot_node.specs.Posts as posts
+use Rattle.iot_server_node.proofs.BackupLaws.{arms_down, arms_up}
 use Rattle.iot_server_node.proofs.server.ServerNode.arm_backup.Goals as goal
-
-pub arm_other-requires : goal.arm_other-requires
-arm_other-requires g c =
-    is_placed g.D.Disk.medium c.args.self.now c.requires (disks_in c.in-Up.keeper) (ap (posts.disk_of disks_in) c.in-Up.is)
 
 pub returns-in-Up-clause-step : goal.returns-in-Up-clause-step
 returns-in-Up-clause-step g c =

@@ -7,7 +7,5 @@ open-requires-clause-ready g c = is_ready g.D.Disk.medium c.args.self.now c.requ
 
 pub returns-clause-step : goal.returns-clause-step
 returns-clause-step g c =
-    if_ok_both c.open.result
-    (λ on step fresh names n.
-    with_known g.D.Disk.medium names (step (kept_text names)) (known_opens names on) (λ had. answered_fresh c.open.new.self on fresh))
-    c.open.ensures.step c.open.ensures.live
+    if_ok_both c.open.result (λ on step fresh names n. with_known _ names (step (kept_text names)) (known_opens names on)
+    (λ had. answered_fresh c.open.new.self on fresh)) c.open.ensures.step c.open.ensures.live

@@ -1,6 +1,5 @@
-use Rattle.iot_server_node.proofs.BackupLaws.{over, promotes, promotes_came, promotes_records}
-use Rattle.iot_server_node.proofs.Common.{arming_as, kept_text, promote_words, turned_post}
-use Rattle.iot_server_node.proofs.{DecidingLaws.decides, ServersLaws.answered_fresh}
+use Rattle.iot_server_node.proofs.{BackupLaws.over, BackupLaws.promotes, BackupLaws.promotes_records, Common.arming_as, Common.kept_text}
+use Rattle.iot_server_node.proofs.{Common.promote_words, Common.turned_post, DecidingLaws.decides, ServersLaws.answered_fresh}
 use Rattle.iot_server_node.proofs.server.ServerNode.promote.Goals as goal
 
 pub come_back-requires-clause-stands : goal.come_back-requires-clause-stands
@@ -20,9 +19,9 @@ returns-clause-step g c down own names =
 
 pub returns-clause-came : goal.returns-clause-came
 returns-clause-came g c own names n node here =
-    rw c.in_ok-come_back.ensures.on (promotes_came g.D.Disk.medium g.met.D.Disk.reads_is_image c.turn.ensures.down
-    c.in_ok-come_back.field-0 names n node c.args.out.now c.come_back.new.out
-    (rw c.turn.ensures.turned at (c.in_ok-come_back.ensures.came (kept_text names))) here)
+    rw c.in_ok-come_back.ensures.on ((rw c.turn.ensures.turned at (c.in_ok-come_back.ensures.came (kept_text names)))
+    (arming_as (g.D.Disk.medium.arms c.turn.ensures.down.last) node)
+    (over g.D.Disk.medium g.met.D.Disk.reads_is_image c.turn.ensures.down here))
 
 pub returns-clause-decided : goal.returns-clause-decided
 returns-clause-decided g c own =

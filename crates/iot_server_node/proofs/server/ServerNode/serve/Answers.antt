@@ -1,6 +1,5 @@
-use Rattle.{std.proofs.Common.rules, iot_disk.specs.declared.faults.JournalFault.TheVariants.Stopped}
-use Rattle.iot_server_node.proofs.BeginningLaws.{handled_records, refused_records}
-use Rattle.iot_server_node.proofs.{Common.committed_since, Common.kept_text, Common.refl, Common.◌∙◌, Common.◌≡◌, ServersLaws.live_is}
+use Rattle.{iot_disk.specs.declared.faults.JournalFault.TheVariants.Stopped, iot_server_node.proofs.BeginningLaws.handled_records}
+use Rattle.iot_server_node.proofs.{BeginningLaws.refused_records, Common.kept_text, Common.refl, Common.◌≡◌, ServersLaws.live_is}
 use Rattle.iot_server_node.proofs.ServingLaws.{judges, judges_stopped, lends, lends_always, stays_stamped}
 use Rattle.iot_server_node.proofs.server.ServerNode.serve.Goals as goal
 
@@ -14,8 +13,7 @@ returns-in-Ok-clause-lends g c client held errand names asks =
     rw (live_is c.in-Up.is) (lends g.D.Disk.medium c.args.message.now client held errand asks names
     (record { reply = c.in-Ok.reply; committed = c.committed_by.result })
     (rw (live_is c.in-Up.is) at c.requires.sound) (rw c.deref.ensures.value at c.in-Ok.ensures.handled)
-    (rw (live_is c.in-Up.is) at
-    (c.committed_by.ensures ∙ (λ i. committed_since (c.number-before.ensures i) (c.number.ensures i)))))
+    (rw (c.number-before.ensures, c.number.ensures, live_is c.in-Up.is) at c.committed_by.ensures))
 
 pub returns-in-Ok-clause-stamps : goal.returns-in-Ok-clause-stamps
 returns-in-Ok-clause-stamps g c client held errand asks =
@@ -26,8 +24,7 @@ pub returns-in-Ok-clause-judges : goal.returns-in-Ok-clause-judges
 returns-in-Ok-clause-judges g c it names hands named =
     rw (live_is c.in-Up.is) (judges hands g.D.Disk.medium names named (record { reply = c.in-Ok.reply; committed = c.committed_by.result })
     c.args.out.now (rw c.deref.ensures.value at c.in-Ok.ensures.handled)
-    (rw (live_is c.in-Up.is) at
-    (c.committed_by.ensures ∙ (λ i. committed_since (c.number-before.ensures i) (c.number.ensures i))))
+    (rw (c.number-before.ensures, c.number.ensures, live_is c.in-Up.is) at c.committed_by.ensures)
     (rw (live_is c.in-Up.is) at c.requires.sound))
 
 pub returns-in-Ok-clause-records : goal.returns-in-Ok-clause-records
@@ -62,22 +59,10 @@ returns-in_err-doubt-in-Err-clause-records g c =
 
 pub returns-in-Err-Over-clause-records : goal.returns-in-Err-Over-clause-records
 returns-in-Err-Over-clause-records g c =
-    rw (c.in-Up.is, c.take.ensures.disk 0) (refused_records g.D.Disk.medium g.met.D.Disk.reads_is_image c.in-Up.keeper _
+    rw (c.in-Up.is, c.take.ensures.disk) (refused_records g.D.Disk.medium g.met.D.Disk.reads_is_image c.in-Up.keeper _
     (rw (live_is c.in-Up.is) at c.requires.sound) c.in-Err.ensures.refused)
 
 pub returns-in-Err-NoMemory-clause-records : goal.returns-in-Err-NoMemory-clause-records
 returns-in-Err-NoMemory-clause-records g c =
-    rw (c.in-Up.is, c.take.ensures.disk 0) (refused_records g.D.Disk.medium g.met.D.Disk.reads_is_image c.in-Up.keeper _
+    rw (c.in-Up.is, c.take.ensures.disk) (refused_records g.D.Disk.medium g.met.D.Disk.reads_is_image c.in-Up.keeper _
     (rw (live_is c.in-Up.is) at c.requires.sound) c.in-Err.ensures.refused)
-
-pub returns-in-Err-Over-clause-disk : goal.returns-in-Err-Over-clause-disk
-returns-in-Err-Over-clause-disk g c = rw (c.take.ensures.disk 0) (search rules)
-
-pub returns-in-Err-NoMemory-clause-disk : goal.returns-in-Err-NoMemory-clause-disk
-returns-in-Err-NoMemory-clause-disk g c = rw (c.take.ensures.disk 0) (search rules)
-
-pub returns-in-Err-Over-clause-beside : goal.returns-in-Err-Over-clause-beside
-returns-in-Err-Over-clause-beside g c promoted arms it = record { is = rw (c.take.ensures.disk 0) (search rules) }
-
-pub returns-in-Err-NoMemory-clause-beside : goal.returns-in-Err-NoMemory-clause-beside
-returns-in-Err-NoMemory-clause-beside g c promoted arms it = record { is = rw (c.take.ensures.disk 0) (search rules) }
