@@ -10,19 +10,20 @@ use Rattle.iot_client.specs.declared.noted.Noted.{Noted as NotedIn}
 use Rattle.iot_kept.proofs.{BringingLaws.base_spelled, BringingLaws.brought_spelled, SyncedLaws.synced_spelled, TrailsLaws.IsOwn}
 use Rattle.iot_kept.specs.Bringing.{base_for, bringing, brought_for}
 use Rattle.{iot_kept.specs.declared.bringing.Purpose.Purpose, iot_laptop.proofs.Common.AreNamed}
-use Rattle.iot_laptop.proofs.Common.{Before, Besides, Between, Bool, Call, CanFollow, Client, ClientFault, ClientStands, ClientState}
+use Rattle.iot_laptop.proofs.Common.{Before, Besides, Bool, Call, CanFollow, Client, ClientFault, ClientStands, ClientState}
 use Rattle.iot_laptop.proofs.Common.{Code, CutsOff, Declared, EndsAlone, Err, Halt, IfErr, IfOk, IfOk-at_ok, IfOk-weaker, IsErrOf}
-use Rattle.iot_laptop.proofs.Common.{IsLent, IsScript, IsTied, IsTree, Item, KeepsDisk, KeepsTrails, KeptLive, Laptop, LaptopStands}
+use Rattle.iot_laptop.proofs.Common.{IsLent, IsScript, IsTied, IsTree, Item, KeepsTrails, KeptLive, Laptop, LaptopStands, no_text, seating}
 use Rattle.iot_laptop.proofs.Common.{List, Live, MayFail, Medium, NoMemory, Node, None, Notes, NotesAlone, Ok, OnOk, Option, Over, Post}
-use Rattle.iot_laptop.proofs.Common.{Result, Seated, Some, State, StateKept, StateStands, StepsFrom, StepsTo, Stopped, UnlessNoMemory, Up}
-use Rattle.iot_laptop.proofs.Common.{UpStands, Writes, acts_in, after, answers, ap, besides, bind, disk_by, disk_of, done, false, head_of}
-use Rattle.iot_laptop.proofs.Common.{if◌then◌else◌, inl, inr, is_alive, is_on, live_by, live_in, live_of, lives_then, no_text, none_besides}
-use Rattle.iot_laptop.proofs.Common.{place_of, possibly_sure, reads_of, records_of, refl, rules, same_Some, same_counts, seating}
+use Rattle.iot_laptop.proofs.Common.{Result, Seated, Some, State, StateKept, StateStands, StepFrom, StepsFrom, StepsTo, Stopped}
+use Rattle.iot_laptop.proofs.Common.{UnlessNoMemory, Up, UpStands, Writes, acts_in, after, answers, ap, at_each, besides, bind, disk_of}
+use Rattle.iot_laptop.proofs.Common.{done, false, head_of, if◌then◌else◌, inl, inr, is_alive, is_on, live_by, live_in, live_of, lives_then}
+use Rattle.iot_laptop.proofs.Common.{none_besides, place_of, possibly_sure, reads_of, records_of, refl, rules, same_Some, same_counts}
 use Rattle.iot_laptop.proofs.Common.{stamps_by, stamps_in, stamps_of, stands_so, state_in, state_of, subst, sym, true, ℕ, [], ◌∙◌, ◌∷◌, ◌≡◌}
-use Rattle.iot_laptop.proofs.NodesLaws.{Posted, at_node, awake_at, fallen_at, not_both, up_stands}
+use Rattle.iot_laptop.proofs.NodesLaws.{Posted, at_node, awake_at, not_both, stands_at, up_stands}
 use Rattle.iot_laptop.{proofs.SeatsLaws.besides_again, proofs.SeatsLaws.fresh_lent, specs.Below.Nodes, specs.Below.Plan, specs.Below.Read}
 use Rattle.iot_laptop.specs.{Below.SpellsVerdict, Below.Stamps, Below.brought, Below.nothing_held, Calls.Changes, Calls.GoesOn, Calls.Plans}
-use Rattle.iot_laptop.specs.{Calls.Repairs, Calls.TakesStamps, Calls.TakesVerdict, Calls.appended, Calls.head_reads, Laptops.records_by}
+use Rattle.iot_laptop.specs.Calls.{Repairs, TakesReply, TakesStamps, TakesVerdict, appended, head_reads}
+use Rattle.iot_laptop.{proofs.Common.KeepsDisk, specs.Laptops.disk_in, specs.Laptops.records_by}
 use Rattle.{iot_laptop.specs.Laptops.records_in, iot_laptop.specs.Messages.SpellsTree, iot_limits.proofs.TreesLaws.tree_spelled}
 use Rattle.{iot_limits.specs.Spelled.IsSpelledTree, iot_machine.proofs.PossiblyLaws.appends_possibly}
 use Rattle.iot_machine.specs.{Clients.leave, Clients.reach, Clients.repair, Clients.resolution_of, Nodes.changed, Stops.Appends}
@@ -95,6 +96,11 @@ pub if_two : {T E : Type 0} {P Q R : T → Type 0} (r : Result T E) → IfOk r P
 if_two (Ok t) p q both = both t p q
 if_two (Err e) p q both = tt
 
+-- what is so unless memory ran out is so of that it was done
+pub unless_done : {T : Type 0} (P : Type 0) (r : Result T Halt) → UnlessNoMemory r P → UnlessNoMemory (done r) P
+unless_done P (Ok t) so = so
+unless_done P (Err halt) so = so
+
 pub as_is : (r : Result (Unit {0}) Halt) → done r ≡ r
 as_is (Ok it) = refl
 as_is (Err halt) = refl
@@ -165,76 +171,65 @@ module _ {D T : Type 0} {medium : Medium D} {laptop : Laptop D} {was now : Clien
   pub answered_so : (t : T) → result ≡ Ok t → answer ≡ Ok t
   answered_so t same = IfOk-at_ok _ same call.goes.answers
 
-  -- ---- it notes this change, or stops in that, and what is so before it is known
+  -- ---- it notes this change, or stops in that, from a client of the machine of which so much is known
 
-  module _ (scripts : List Declared) (stands : Laptop D → machine.Client → Type 0) (next : ClientState → ClientState)
-      (before : (m : machine.Client) → stands laptop m → Before medium laptop scripts m) (change : Change)
-      (kept : (m : machine.Client) → stands laptop m → CanFollow s change
+  module _ (scripts : List Declared) (m : machine.Client) (here : Before medium laptop scripts m) (next : ClientState → ClientState)
+      (change : Change) (kept : CanFollow s change
       → StateKept (after s change) (next m.node.durable) × AreNamed scripts (next m.node.durable)) where
-    answered : (m : machine.Client) → stands laptop m
-        → Appended (seating medium laptop.place) medium next m.node.durable (record { client = was }) (record { client = now })
+    answered : Appended (seating medium laptop.place) medium next m.node.durable (record { client = was }) (record { client = now })
         (appended answer) → (r : Result T Halt) → result ≡ r
         → Answered (StepsFrom (Posted medium laptop) (Appends laptop.name next) m.node new.post x y) (appended answer) r
-    answered m here appends r same =
+    answered appends r same =
         rw (sym same)
-        (call.goes.step (record { client = was }) (record { client = now }) next m.node refl (rw call.up at (before m here).node) appends
+        (call.goes.step (record { client = was }) (record { client = now }) next m.node refl (rw call.up at here.node) appends
         (call.counted ∙ ap records_by call.up))
 
     -- it went on, to where this stands
     pub goes_at : {after_it : Laptop D → machine.Client → Type 0} (t : T) → result ≡ Ok t → Notes change was now
-        → ((m : machine.Client) → stands laptop m → (post : Post (Seated D) D) → Posted medium laptop post (changed next m.node)
-        → live_by post ≡ live_of now → after_it (record laptop { post = post }) (record m { node = changed next m.node }))
-        → StepsTo stands after_it (Writes next) laptop new x y true
+        → ((post : Post (Seated D) D) → Posted medium laptop post (changed next m.node) → live_by post ≡ live_of now
+        → after_it (record laptop { post = post }) (record m { node = changed next m.node }))
+        → StepFrom after_it (Writes next) m new x y true
     goes_at {after_it} t same note stand =
         let ok : answer ≡ Ok t = answered_so t same in
-        subst (λ (l : Laptop D). StepsTo stands after_it (Writes next) laptop l x y true) (sym call.goes.rest)
-        (at_node medium laptop new.post (λ name. Appends name next) (λ m. m.name) x y true
-        (λ m here. (
-          (before m here).name,
-          (answered m here (rw ok (
-            (λ n seat. record {
-              place_is = note.place ∙ seat.place_is;
-              tied = IfOk-at_ok _ ok call.tied;
-              counted = note.records ∙ ap next_count seat.counted;
-              kept = subst (λ (s : State). StateKept s (next m.node.durable)) (sym note.state) (kept m here note.follows).0;
-            }),
-            same_counts medium (disk_of was) (disk_of now) (rw ok at call.counts) call.arms,
-          )) (Ok t) same).1,
-        ))
-        (λ m here n text step there.
+        subst (λ (l : Laptop D). StepFrom after_it (Writes next) m l x y true) (sym call.goes.rest)
+        (at_node medium laptop new.post (λ name. Appends name next) (λ m. m.name) here.name
+        (answered (rw ok (
+          (λ n seat. record {
+            place_is = note.place ∙ seat.place_is;
+            tied = IfOk-at_ok _ ok call.tied;
+            counted = note.records ∙ ap next_count seat.counted;
+            kept = subst (λ (s : State). StateKept s (next m.node.durable)) (sym note.state) (kept note.follows).0;
+          }),
+          same_counts medium (disk_of was) (disk_of now) (rw ok at call.counts) call.arms,
+        )) (Ok t) same).1
+        (λ n text step there.
         let went : n ≡ changed next m.node = elim step [ inl it ↦ it.2 | inr stop ↦ absurd (not_both stop.1) ] in
-        rw went
-        (stand m here new.post (rw went at there) (ap (λ (l : Laptop D). live_by l.post) (IfOk-at_ok _ same call.goes.same)))))
+        rw went (stand new.post (rw went at there) (ap (λ (l : Laptop D). live_by l.post) (IfOk-at_ok _ same call.goes.same)))))
 
     -- or it stopped in that: each image is what the client keeps, without the record or with it
-    pub halts_at : result ≡ Err Over → cuts change → StepsTo stands (ClientStands medium scripts) (Writes next) laptop new x y false
+    pub halts_at : result ≡ Err Over → cuts change → StepFrom (ClientStands medium scripts) (Writes next) m new x y false
     halts_at same cut =
         let stopped : answer ≡ Err Stopped = call.goes.stopped same in
-        subst (λ (l : Laptop D). StepsTo stands (ClientStands medium scripts) (Writes next) laptop l x y false) (sym call.goes.rest)
-        (at_node medium laptop new.post (λ name. Appends name next) (λ m. m.name) x y false
-        (λ m here. (
-          (before m here).name,
-          answered m here (rw stopped (
-            (λ n seat. record {
-              each = λ image left. elim (cut.either.each image left) [
-                | inl before ↦ inl (record { state = s; stands = rw seat.counted at before; kept = seat.kept })
-                | inr more ↦
-                    inr (record { state = after s change; stands = rw seat.counted at more; kept = (kept m here cut.follows).0 })
-              ];
-            }),
-            record { faults = rw stopped at call.counts; arms = call.arms },
-          )) (Err Over) same,
-        ))
-        (λ m here n text step there.
-        let known = before m here in
+        subst (λ (l : Laptop D). StepFrom (ClientStands medium scripts) (Writes next) m l x y false) (sym call.goes.rest)
+        (at_node medium laptop new.post (λ name. Appends name next) (λ m. m.name) here.name
+        (answered (rw stopped (
+          (λ n seat. record {
+            each = λ image left. elim (cut.either.each image left) [
+              | inl before ↦ inl (record { state = s; stands = rw seat.counted at before; kept = seat.kept })
+              | inr more ↦ inr (record { state = after s change; stands = rw seat.counted at more; kept = (kept cut.follows).0 })
+            ];
+          }),
+          record { faults = rw stopped at call.counts; arms = call.arms },
+        )) (Err Over) same)
+        (λ n text step there.
         let down : n.alive ≡ false = elim step [
           | inl it ↦ absurd (not_both (sym it.1))
           | inr stop ↦ ap (λ (n : Node ClientState). n.alive) stop.2.is
         ] in
-        let up : UpStands (seating medium laptop.place) medium no_text (record { client = was }) m.node = rw call.up at known.node in
-        fallen_at medium scripts laptop m known.name known.link new.post n there down
-        (appends_possibly laptop.name next m.node n text false (λ _. (kept m here cut.follows).1)
-        (possibly_sure m.node up.sure known.named) step)))
+        let up : UpStands (seating medium laptop.place) medium no_text (record { client = was }) m.node = rw call.up at here.node in
+        stands_at medium scripts laptop m here.name here.link new.post n there (λ up. absurd (not_both (sym up ∙ down)))
+        (appends_possibly laptop.name next m.node n text false (λ _. (kept cut.follows).1)
+        (possibly_sure m.node up.sure here.named) step)))
 
   -- ---- the same with what is known besides of what runs
 
@@ -250,18 +245,17 @@ module _ {D T : Type 0} {medium : Medium D} {laptop : Laptop D} {was now : Clien
         (NotesAlone next) laptop new x y (Some tt)
     notes_at t same note live =
         bind {a = true}
-        (goes_at scripts (Known medium scripts s lives) next (λ m here. here.before) change kept_then
-        {after_it = λ l m. LaptopStands medium scripts l (record m { first = class m.first })} t same note (λ m here post there is.
+        (at_each (λ m here. goes_at scripts m here.before next change (kept_then m here)
+        {after_it = λ l m. LaptopStands medium scripts l (record m { first = class m.first })} t same note (λ post there is.
         let it = kept m here note.follows in
         awake_at medium scripts laptop m here.name here.link post (changed next m.node) there here.alive (class m.first)
-        (is ∙ live ∙ it.runs) it.named))
+        (is ∙ live ∙ it.runs) it.named)))
         (answers (λ m here. here))
 
     pub notes_halt : result ≡ Err Over → cuts change
         → StepsTo (Known medium scripts s lives) (ClientStands medium scripts) (NotesAlone next) laptop new x y None
     notes_halt same cut =
-        bind {a = false}
-        (halts_at scripts (Known medium scripts s lives) next (λ m here. here.before) change kept_then same cut)
+        bind {a = false} (at_each (λ m here. halts_at scripts m here.before next change (kept_then m here) same cut))
         (answers (λ m here. here))
 
   -- ---- one that has not yielded
@@ -312,29 +306,6 @@ module _ {D T : Type 0} {medium : Medium D} {laptop : Laptop D} {was now : Clien
       → (IsErrOf answer Stopped → cuts (Repaired name)) → Repairs medium name laptop new x y (done result)
   repairs name notes lives stops scripts script named same =
       alone scripts (repair script) (Repaired name) notes lives stops (λ m here follows. repaired_live here.kept name script same named)
-
-  -- the change by the tree that the reply makes
-  pub brings : {purpose : Purpose} {other : Nodes → ClientState → ClientState} {reply : List ℕ} → ReadsObjects reply
-      → OnOk answer (Brings purpose reply was now) → OnOk answer (live_of now ≡ live_of was)
-      → (IsErrOf answer Stopped
-      → CutsOffByTree purpose reply (stamps_of was) s (records_of was) (medium.may_leave (disk_of now)))
-      → ((scripts : List Declared) (first : List ℕ) (m : ClientState) → KeptLive scripts s (live_of was) first m → (t : Nodes)
-      → CanFollow s (brought_for purpose t) → IsTree t → IsSpelledTree t
-      → KeptLive scripts (after s (brought_for purpose t)) (live_of was) first (other t m))
-      → (t : Nodes) → SpellsTree (base_for purpose (stamps_in laptop)) reply t → Changes medium (other t) laptop new x y (done result)
-  brings {purpose} {other} {reply} only brought_by lives stops known t spells_it scripts =
-      let base : Stamps = base_for purpose (stamps_of was) in
-      let spells : SpellsTree base reply t = rw call.up at spells_it in
-      let is : (read : RowChanges) → objects_in reply ≡ Ok read → bringing purpose (stamps_of was) read ≡ brought_for purpose t =
-      λ read of. ap (brought_for purpose) (spelled_changes read only of spells) in
-      let rows : IsTreeOfRows t =
-      rw spells.is (brought_spelled base spells.changes
-      (base_spelled purpose (stamps_of was) (synced_spelled medium was.kept call.was_tied.synced).held) spells.spelled.value
-      (rw spells.is at spells.tree)) in
-      alone scripts (other t) (brought_for purpose t)
-      (IfOk-weaker answer _ _ (λ u it. subst (λ (change : Change). Notes change was now) (is it.changes it.read) it.notes) brought_by)
-      lives (λ stopped. let it = stops stopped in subst cuts (is it.changes it.read) it.cuts_off)
-      (λ m here follows. known scripts m.first m.node.durable here.kept t follows spells.tree (tree_spelled t rows))
 
   -- of a reply by which nothing but the held tree changes, what runs goes on
   pub holds_beside : (purpose : Purpose) (reply : List ℕ) → OnOk answer (Brings purpose reply was now)
@@ -389,20 +360,20 @@ module _ {D T : Type 0} {medium : Medium D} {laptop : Laptop D} {was now : Clien
 
   -- a call of its client that kept the stamps of a server
   pub goes_trails : OnOk answer (KeepsTrail (stamps_of was) (stamps_of now)) → (r : Result T Halt) → result ≡ r
-      → UnlessNoMemory (done r) (KeepsTrails laptop new)
+      → UnlessNoMemory r (KeepsTrails laptop new)
   goes_trails keeps (Ok t) same = rw (IfOk-at_ok _ same call.goes.same, call.up) (IfOk-at_ok _ (answered_so t same) keeps)
   goes_trails keeps (Err NoMemory) same = tt
   goes_trails keeps (Err Over) same = off_trails laptop new (call.goes.down same)
 
   -- so it is of one that noted such a change
   pub noted_trails : (change : T → Change) → IfOk answer (λ t. Notes (change t) was now) → ((t : T) → IsOwn (change t))
-      → UnlessNoMemory (done result) (KeepsTrails laptop new)
+      → UnlessNoMemory result (KeepsTrails laptop new)
   noted_trails change notes own =
       goes_trails (IfOk-weaker answer _ _ (λ t. client.noted_trails medium was now (change t) (own t) call.was_tied) notes) result refl
 
   -- or that took changes of a server
-  pub takes_stamps : (purpose : Purpose) (reply : List ℕ) → ReadsObjects reply → OnOk answer (Brings purpose reply was now)
-      → (r : Result T Halt) → result ≡ r → TakesStamps (base_for purpose (stamps_in laptop)) reply laptop new r
+  takes_stamps : (purpose : Purpose) (reply : List ℕ) → ReadsObjects reply → OnOk answer (Brings purpose reply was now)
+      → (r : Result T Halt) → result ≡ r → TakesStamps (base_for purpose (stamps_in laptop)) reply laptop new (done r)
   takes_stamps purpose reply only brought_by (Ok t) same = λ changes spells.
       let it : Brings purpose reply was now = IfOk-at_ok _ (answered_so t same) brought_by in
       rw (IfOk-at_ok _ same call.goes.same, call.up)
@@ -410,17 +381,34 @@ module _ {D T : Type 0} {medium : Medium D} {laptop : Laptop D} {was now : Clien
   takes_stamps purpose reply only brought_by (Err NoMemory) same = tt
   takes_stamps purpose reply only brought_by (Err Over) same = off_nothing new.post (call.goes.down same)
 
--- ---- its disk
-
--- nothing was done, outside a call that starts or stops it
-pub keeps_post : {D : Type 0} (medium : Medium D) (post : Post (Seated D) D) → (post ≡ Between → ⊥)
-    → KeepsDisk medium (disk_by post) (disk_by post)
-keeps_post medium Between outside = absurd (outside refl)
-keeps_post medium post outside = record { was = _; now = _; old_has = refl; new_has = refl; arms = refl; faults = inl refl }
-
-pub keeps_same : {D : Type 0} (medium : Medium D) (post : Post (Seated D) D) → is_on post ≡ true → KeepsDisk medium (disk_by post)
-    (disk_by post)
-keeps_same medium post up = keeps_post medium post (λ is. not_both (sym up ∙ ap (λ (p : Post (Seated _) _). is_on p) is))
+  -- what a reply brings is held so, if what runs stands for the same then
+  pub takes : {purpose : Purpose} {held : Nodes → ClientState → ClientState} {reply : List ℕ} → ReadsObjects reply
+      → OnOk answer (Brings purpose reply was now) → OnOk answer (live_of now ≡ live_of was)
+      → (IsErrOf answer Stopped
+      → CutsOffByTree purpose reply (stamps_of was) s (records_of was) (medium.may_leave (disk_of now)))
+      → ((scripts : List Declared) (first : List ℕ) (m : ClientState) → KeptLive scripts s (live_of was) first m → (t : Nodes)
+      → CanFollow s (brought_for purpose t) → IsTree t → IsSpelledTree t
+      → KeptLive scripts (after s (brought_for purpose t)) (live_of was) first (held t m))
+      → KeepsDisk medium (disk_in laptop) (disk_in new)
+      → TakesReply medium held (base_for purpose (stamps_in laptop)) reply laptop new x y (done result)
+  takes {purpose} {held} {reply} only brought_by lives stops known disk = record {
+    does = λ t spells_it scripts.
+        let base : Stamps = base_for purpose (stamps_of was) in
+        let spells : SpellsTree base reply t = rw call.up at spells_it in
+        let is : (read : RowChanges) → objects_in reply ≡ Ok read → bringing purpose (stamps_of was) read ≡ brought_for purpose t =
+        λ read of. ap (brought_for purpose) (spelled_changes read only of spells) in
+        let rows : IsTreeOfRows t =
+        rw spells.is (brought_spelled base spells.changes
+        (base_spelled purpose (stamps_of was) (synced_spelled medium was.kept call.was_tied.synced).held) spells.spelled.value
+        (rw spells.is at spells.tree)) in
+        alone scripts (held t) (brought_for purpose t)
+        (IfOk-weaker answer _ _ (λ u it. rw (is it.changes it.read) at it.notes) brought_by) lives
+        (λ stopped. let it = stops stopped in rw (is it.changes it.read) at it.cuts_off)
+        (λ m here follows. known scripts m.first m.node.durable here.kept t follows spells.tree (tree_spelled t rows));
+    stamps = takes_stamps purpose reply only brought_by result refl;
+    place = ap (λ (l : Laptop D). l.place) call.goes.rest;
+    disk = disk;
+  }
 
 -- ---- its stamps
 

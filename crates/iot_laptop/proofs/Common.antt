@@ -11,9 +11,9 @@ pub use Rattle.{iot_lang.specs.Scripts.IsScript, iot_laptop.specs.Alone.NotesAlo
 pub use Rattle.iot_laptop.specs.Below.{ClientState, Declared, IfErr, IfOk, IsErrOf, KeepsDisk, Laptop, Live, Medium, OnOk, PostStands}
 pub use Rattle.iot_laptop.specs.Below.{Seated, State, Up, acts_output, cut_line, live_numbered, may_end_if_any, no_text, numbered, reads_of}
 pub use Rattle.iot_laptop.specs.{Below.records_of, Calls.Before, Calls.CutsAll, Calls.EndsAlone, Calls.Returned}
-pub use Rattle.iot_laptop.specs.{Calls.UnlessNoMemory, Calls.acts_in, Calls.done, Laptops.ClientStands, Laptops.FallenStands}
+pub use Rattle.iot_laptop.specs.{Calls.UnlessNoMemory, Calls.acts_in, Calls.done, Laptops.ClientStands}
 pub use Rattle.iot_laptop.specs.Laptops.{IsFirstOf, IsLent, KeepsTrails, LaptopStands, Reclassed, Stands, StandsAnyhow, all_second}
-pub use Rattle.iot_laptop.specs.Laptops.{awake, disk_by, fallen, is_alive, live_by, live_in, stamps_by, stamps_in, state_by, state_in}
+pub use Rattle.iot_laptop.specs.Laptops.{disk_by, is_alive, live_by, live_in, stamps_by, stamps_in, state_by, state_in}
 pub use Rattle.iot_laptop.specs.Seats.{Besides, IsClientImage, begun_of, besides, none_besides, seating}
 pub use Rattle.{iot_link.specs.Links.connected, iot_machine.proofs.PossiblyLaws.possibly_sure}
 pub use Rattle.iot_machine.proofs.StepsLaws.{answers, asks, at_each, at_one, bind, does, joined, quiet}

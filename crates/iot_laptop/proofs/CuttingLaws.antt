@@ -4,11 +4,11 @@ use Rattle.iot_client.specs.Calls.{Cuts, CutsIfAny, CutsOffCut}
 use Rattle.iot_laptop.proofs.CallsLaws.{Called, answered_so, goes_at, goes_trails, halts_at}
 use Rattle.iot_laptop.proofs.Common.{AreNamed, Before, CanFollow, Client, ClientFault, ClientStands, ClientState, CutsAll, Declared, Err}
 use Rattle.iot_laptop.proofs.Common.{Halt, IfOk, IfOk-at_ok, IfOk-weaker, IsErrOf, KeepsTrails, Laptop, List, Medium, NoMemory, None, Ok}
-use Rattle.iot_laptop.proofs.Common.{OnOk, Option, Over, Part, Post, Result, Returned, RunKept, Seated, Some, State, StateKept, StepFrom}
-use Rattle.iot_laptop.proofs.Common.{Stopped, Then, Transaction, UnlessNoMemory, Up, Writes, after, ap, arith, at_each, at_one, awake, bind}
-use Rattle.iot_laptop.proofs.Common.{cut_line, disk_of, done, false, goes_on, joined, length, quiet, records_of, refl, rules, same_Some}
-use Rattle.iot_laptop.proofs.Common.{state_by, state_in, state_of, subst, sym, transaction_name, true, ℕ, [], ◌++◌, ◌∙◌, ◌∷◌, ◌≡◌}
-use Rattle.iot_laptop.proofs.NodesLaws.{awake_at, kept_up, none_up}
+use Rattle.iot_laptop.proofs.Common.{OnOk, Option, Over, Part, Result, Returned, RunKept, Some, State, StateKept, StepFrom}
+use Rattle.iot_laptop.proofs.Common.{Stopped, Then, Transaction, UnlessNoMemory, Writes, after, ap, arith, at_each, at_one, bind}
+use Rattle.iot_laptop.proofs.Common.{cut_line, disk_of, goes_on, joined, quiet, records_of, refl, rules, same_Some}
+use Rattle.iot_laptop.proofs.Common.{state_in, state_of, subst, sym, transaction_name, true, ℕ, [], ◌++◌, ◌∙◌, ◌∷◌, ◌≡◌}
+use Rattle.iot_laptop.proofs.NodesLaws.{awake, awake_at, kept_up, none_up}
 use Rattle.iot_laptop.specs.Calls.{Back, CutsFirst, RunFewer}
 use Rattle.iot_machine.{proofs.StepsLaws.nothing, proofs.StepsLaws.says, specs.Calls.Says, specs.Clients.cut, specs.Events.cuts_off}
 use Rattle.iot_standing.proofs.KeptLaws.{cut_kept, cut_named, idle_is, longest}
@@ -55,18 +55,13 @@ module _ {D : Type 0} {medium : Medium D} {laptop : Laptop D} {was now : Client 
 
   left_so : result ≡ Ok None → (s.running ≡ []) × (new ≡ laptop) × (y ≡ x)
   left_so ok =
-      let none = none_ran s.running (did None ok) in (
-        none.0,
-        IfOk-at_ok _ ok call.goes.same ∙ ap (λ (it : Client D). record laptop { post = Up (record { client = it }) }) none.1
-            ∙ ap (λ (post : Post (Seated D) D). record laptop { post = post }) (sym call.up),
-        IfOk-at_ok _ ok call.goes.silent,
-      )
+      let none = none_ran s.running (did None ok) in
+      (none.0, rw (IfOk-at_ok _ ok call.goes.same, none.1) (λ i. record laptop { post = sym call.up i }), IfOk-at_ok _ ok call.goes.silent)
 
   -- nothing is done then
   none_cut : s.running ≡ [] → CutsAll medium laptop laptop x x
   none_cut none scripts [] = at_each (λ m h.
-      let runs = none_up medium laptop.place laptop.post m.node h.here.node h.here.alive m.first
-      (ap (λ (p : Post (Seated D) D). (state_by p).running) call.up ∙ none) in
+      let runs = none_up medium laptop.place laptop.post m.node h.here.node h.here.alive m.first (rw call.up none) in
       quiet m (refl, refl) (awake
       (awake_at medium scripts laptop m h.here.name h.here.link laptop.post m.node h.here.node h.here.alive m.first runs h.here.named)))
   none_cut none scripts (it ∷ later) = at_each (λ m h.
@@ -110,13 +105,9 @@ module _ {D : Type 0} {medium : Medium D} {laptop : Laptop D} {was now : Client 
   writes told ok scripts m here =
       let first = first_cut told ok in
       let acts : ℕ = first.it.acts in
-      at_one
-      (goes_at call scripts (λ l k. Before medium l scripts k × (k ≡ m)) (cut acts) (λ k h. h.0) (Cut first.own.number acts)
-      (λ k h. kept_then first.own.number acts scripts k h.0)
-      {after_it = IsCut scripts m.node.durable acts} (Some told) ok first.it.notes (λ k h post there live.
-      let named = cut_named scripts acts k.node.durable h.0.named in
-      (search rules, ap (λ (k : machine.Client). cut acts k.node.durable) h.1)))
-      (here, refl)
+      goes_at call scripts m here (cut acts) (Cut first.own.number acts) (kept_then first.own.number acts scripts m here)
+      {after_it = IsCut scripts m.node.durable acts} (Some told) ok first.it.notes (λ post there live.
+      let named = cut_named scripts acts m.node.durable here.named in (search rules, refl))
 
   -- ---- by what it answered
 
@@ -144,10 +135,8 @@ module _ {D : Type 0} {medium : Medium D} {laptop : Laptop D} {was now : Client 
       by [] ran cut = absurd cut
       by (own ∷ rest) ran off =
           finds own rest ran off.acts off.cuts_off.follows new y (λ scripts it later named m h.
-          at_one (bind {a = false}
-          (halts_at call scripts (Back medium scripts (it ∷ later)) (cut off.acts) (λ k h. h.here) (Cut own.number off.acts)
-          (λ k h. kept_then own.number off.acts scripts k h.here) over off.cuts_off)
-          nothing) h)
+          let s = halts_at call scripts m h.here (cut off.acts) (Cut own.number off.acts)
+          (kept_then own.number off.acts scripts m h.here) over off.cuts_off in joined s (at_one nothing s.stands))
 
   -- it has come back still
   pub returns_by : Returned medium laptop → (r : Result (Option (ℕ × ℕ)) Halt) → result ≡ r → OnOk r (Returned medium new)
@@ -162,15 +151,11 @@ module _ {D : Type 0} {medium : Medium D} {laptop : Laptop D} {was now : Client 
   fewer_by (Ok None) ok = tt
   fewer_by (Ok (Some told)) ok =
       let first = first_cut told ok in
-      let left : (state_in new).running ≡ first.rest =
-      ap (λ (l : Laptop D). (state_in l).running) (IfOk-at_ok _ ok call.goes.same)
-      ∙ ap (λ (s : State). s.running) first.it.notes.state
+      let left : (state_of now).running ≡ first.rest = ap (λ (s : State). s.running) first.it.notes.state
       ∙ ap (λ (running : List Transaction). (records.cut first.it.acts running s).running) first.ran in
-      let ran : (state_in laptop).running ≡ first.own ∷ first.rest =
-      ap (λ (p : Post (Seated D) D). (state_by p).running) call.up ∙ first.ran in
-      omega (arith, ap length left, ap length ran)
+      rw (IfOk-at_ok _ ok call.goes.same, call.up, left, first.ran) (omega arith)
   fewer_by (Err halt) over = tt
 
   -- a server's stamps are kept
-  pub cut_keeps : UnlessNoMemory (done result) (KeepsTrails laptop new)
+  pub cut_keeps : UnlessNoMemory result (KeepsTrails laptop new)
   cut_keeps = goes_trails call (IfOk-weaker answer _ _ (cut_trails was now s.running) cuts) result refl

@@ -1,18 +1,17 @@
 -- What befalls a laptop: its link, and a start, a crash, a restart and an armed disk of its node.
-use Rattle.std.proofs.{Common.codes, Common.◌≢◌, Common.◌⊎◌, lemmas.Result.on_ok_weaker}
-use Rattle.{iot_count.specs.Counts.Rose, iot_disk.specs.Disk.Storing, iot_disk.specs.declared.disk.Pick.Pick}
+use Rattle.std.proofs.{Common.codes, Common.◌≢◌, lemmas.Result.on_ok_weaker}
+use Rattle.{iot_disk.specs.Disk.Storing, iot_disk.specs.declared.disk.Pick.Pick}
 use Rattle.{iot_judging.proofs.SpelledTreesLaws.far_root_spelled, iot_kept.specs.Rules.header, iot_kept.specs.States.opening}
-use Rattle.iot_laptop.proofs.{CallsLaws.keeps_post, Common.AreNamed, Common.Asks, Common.At, Common.Before}
-use Rattle.iot_laptop.proofs.Common.{Besides, Bool, ClientStands, ClientState, CutsAll, Declared, Down, FallenStands, IsClientImage, IsTree}
+use Rattle.iot_laptop.proofs.Common.{AreNamed, Asks, At, Before, Between}
+use Rattle.iot_laptop.proofs.Common.{Besides, Bool, ClientStands, ClientState, CutsAll, Declared, Down, IsClientImage, IsTree}
 use Rattle.iot_laptop.proofs.Common.{KeepsDisk, Laptop, LaptopStands, List, Medium, Node, None, OnOk, Option, Part, Post, PostStands}
 use Rattle.iot_laptop.proofs.Common.{Reclassed, Result, Returned, Seated, Stands, StandsAnyhow, StepFrom, Then, all_second, ap, append-nil}
-use Rattle.iot_laptop.proofs.Common.{arith, asks, at_each, at_one, awake, begun_of, bind, connected, counts_on, disk_by, does, fallen}
+use Rattle.iot_laptop.proofs.Common.{arith, asks, at_each, at_one, begun_of, bind, connected, counts_on, disk_by, does}
 use Rattle.iot_laptop.proofs.Common.{false, goes_on, inl, inr, is_alive, is_on, joined, live_in, live_with, lives_then, no_text, on_is}
 use Rattle.iot_laptop.proofs.Common.{quiet, refl, rules, same_Some, seating, state_by, state_in, subst, sym, true, ℕ, [], ◌++◌, ◌∙◌, ◌≡◌}
-use Rattle.iot_laptop.proofs.NodesLaws.{Posted, alive_stands, at_node, awake_stands, fallen_at, fallen_stands}
-use Rattle.iot_laptop.proofs.NodesLaws.{kept_up, known_up, may_be_named, node_stands, none_up, not_both, same_link, same_name, stands_at}
+use Rattle.iot_laptop.proofs.NodesLaws.{Posted, at_node, awake, awake_stands, kept_up, known_up, node_is, none_up, not_both, stands_at}
 use Rattle.iot_laptop.{proofs.SeatsLaws.begun_all, proofs.SeatsLaws.besides_by, proofs.SeatsLaws.none_runs, specs.Alone.OpensClient}
-use Rattle.iot_laptop.specs.{Below.IsEmpty, Calls.Came, Laptops.IsCutLink, Laptops.IsUnopened, Laptops.Relinked, Laptops.after_passage}
+use Rattle.iot_laptop.specs.{Below.IsEmpty, Calls.Came, Laptops.IsCutLink, Laptops.IsUnopened, Laptops.after_passage}
 use Rattle.{iot_laptop.specs.Laptops.unopened_laptop, iot_link.specs.Links.LinkState, iot_link.specs.Links.after_exchange}
 use Rattle.iot_link.specs.declared.passages.Passage.{Passage, TheVariants.Away, TheVariants.Both}
 use Rattle.iot_machine.proofs.PossiblyLaws.{SameStates, comes_within, crashes_within, opens_states, possibly_same}
@@ -35,13 +34,11 @@ module _ {D : Type 0} (medium : Medium D) (laptop : Laptop D) where
 
   linked : (link : LinkState) (scripts : List Declared) (m : machine.Client) → ClientStands medium scripts laptop m
       → ClientStands medium scripts (record laptop { link = link }) (record m { link = link })
-  linked link scripts m (awake here) = awake (over_link link scripts m here)
-  linked link scripts m (fallen here) = fallen (search rules)
+  linked link scripts m here = search rules
 
   -- over another link it stands for some client too
   pub stands_over : (link : LinkState) → Stands medium laptop → Stands medium (record laptop { link = link })
-  stands_over link stands =
-      record { scripts = _; machine = _; stands = over_link link stands.scripts stands.machine stands.stands }
+  stands_over link stands = record { scripts = _; machine = _; stands = over_link link stands.scripts stands.machine stands.stands }
 
   -- its link is made another one, and that is said
   pub relinks : {E : Type 0} (r : Result (Unit {0}) E) (change : LinkState → LinkState) (line : List ℕ → List ℕ) (link : LinkState)
@@ -50,9 +47,9 @@ module _ {D : Type 0} (medium : Medium D) (laptop : Laptop D) where
       → Refines (ClientStands medium scripts) (Does (λ m. line m.name) (λ m. record m { link = change m.link }))
       laptop (record laptop { link = link }) x y tt)
   relinks r change line link x y is = on_ok_weaker r (λ wrote scripts. does (λ m here. (
-    wrote ∙ ap (λ (n : List ℕ). x ++ line n) (same_name medium scripts laptop m here),
+    wrote ∙ ap (λ (n : List ℕ). x ++ line n) here.name,
     subst (λ (l : LinkState). ClientStands medium scripts (record laptop { link = link }) (record m { link = l }))
-        (is ∙ ap change (same_link medium scripts laptop m here)) (linked link scripts m here),
+        (is ∙ ap change here.link) (linked link scripts m here),
   )))
 
   pub disconnects : {E : Type 0} (r : Result (Unit {0}) E) (mid : Laptop D) (x y : List ℕ) → IsCutLink medium laptop mid
@@ -60,18 +57,19 @@ module _ {D : Type 0} (medium : Medium D) (laptop : Laptop D) where
       → OnOk r ((scripts : List Declared) → Refines (ClientStands medium scripts) Disconnects laptop mid x y tt)
   disconnects r mid x y cut = on_ok_weaker r (λ wrote scripts. does (λ m here.
       let there = cut.stands scripts m here in
-      (wrote ∙ ap (λ (n : List ℕ). x ++ disconnect_line n) (same_name medium scripts mid (machine.cut_off m) there), there)))
+      (wrote ∙ ap (λ (n : List ℕ). x ++ disconnect_line n) there.name, there)))
 
   -- ---- an exchange that does not get through
 
   -- over another link, with all that run second class, by a change of the client of the machine that does both
   pub over_second : (link : LinkState) (new : Laptop D) {change : machine.Client → machine.Client}
       → ((m : machine.Client) → laptop.link ≡ m.link → record m { link = link; first = [] } ≡ change m)
-      → Reclassed medium all_second (record laptop { link = link }) new → Relinked medium change laptop new
+      → Reclassed medium all_second (record laptop { link = link }) new → Reclassed medium change laptop new
   over_second link new is second = record {
     place = second.place;
     state = second.state;
     stamps = second.stamps;
+    disk = second.disk;
     stands = λ scripts m here.
         subst (LaptopStands medium scripts new) (is m here.link)
         (second.stands scripts (record m { link = link }) (over_link link scripts m here));
@@ -79,7 +77,7 @@ module _ {D : Type 0} (medium : Medium D) (laptop : Laptop D) where
 
   -- so it is after any that did not get through
   pub is_over : (p : Passage) (link : LinkState) (new : Laptop D) → link ≡ after_exchange p laptop.link → p ≢ Both
-      → Reclassed medium all_second (record laptop { link = link }) new → Relinked medium (after_passage p) laptop new
+      → Reclassed medium all_second (record laptop { link = link }) new → Reclassed medium (after_passage p) laptop new
   is_over Away link new is lost second = over_second link new (λ m same. λ i. record m { link = (is ∙ same) i; first = [] }) second
   is_over Both link new is lost second = absurd (lost refl)
   is_over p link new is lost second = over_second link new (λ m same. λ i. record m { link = is i; first = [] }) second
@@ -88,7 +86,7 @@ module _ {D : Type 0} (medium : Medium D) (laptop : Laptop D) where
   pub cuts_live : (link : LinkState) (new : Laptop D) → link ≡ connected false laptop.link → is_alive laptop ≡ true
       → Reclassed medium all_second (record laptop { link = link }) new → IsCutLink medium laptop new
   cuts_live link new is up second =
-      let over : Relinked medium machine.cut_off laptop new =
+      let over : Reclassed medium machine.cut_off laptop new =
       over_second link new (λ m same. λ i. record m { link = (is ∙ ap (connected false) same) i; first = [] }) second in
       record {
         place = second.place;
@@ -110,16 +108,15 @@ module _ {D : Type 0} (medium : Medium D) (laptop : Laptop D) (post : Post (Seat
       → call laptop.name m.node text tt n → Posted medium laptop post n → ClientStands medium scripts next (record m { node = n }))
       → Refines (ClientStands medium scripts) (Then (Asks (λ m. m.name)) (λ name. At machine.node (call name))) laptop next x y tt
   by_name scripts call x y it each =
-      (bind {a = laptop.name} (asks (same_name medium scripts laptop))
-      (at_node medium laptop post call (λ _. laptop.name) x y tt
-      (λ m here. (refl, it.step m.node (node_stands medium scripts laptop m here))) each))
+      bind {a = laptop.name} (asks (λ m here. here.name))
+      (at_each (λ m here. at_node medium laptop post call (λ _. laptop.name) refl (it.step m.node here.node) (each m here)))
 
   pub crashes : (x y : List ℕ) → Refines (Posted medium laptop) (Crashes laptop.name) laptop.post post x y tt
       → is_on post ≡ false → (scripts : List Declared) → Refines (ClientStands medium scripts) CrashesClient laptop next x y tt
   crashes x y it off scripts = by_name scripts Crashes x y it (λ m here n text step stands.
-      fallen_at medium scripts laptop m (same_name medium scripts laptop m here) (same_link medium scripts laptop m here) post n stands
-      (on_is (seating medium laptop.place) medium no_text post n stands ∙ off)
-      ((crashes_within laptop.name m.node n text tt step).each (AreNamed scripts) (may_be_named medium scripts laptop m here)))
+      stands_at medium scripts laptop m here.name here.link post n stands
+      (λ up. absurd (not_both (sym up ∙ on_is (seating medium laptop.place) medium no_text post n stands ∙ off)))
+      ((crashes_within laptop.name m.node n text tt step).each (AreNamed scripts) here.named))
 
   -- its disk is armed
   pub arms : (calls : ℕ) (pick : Pick) → besides_by post ≡ besides_by laptop.post → (x y : List ℕ)
@@ -127,14 +124,14 @@ module _ {D : Type 0} (medium : Medium D) (laptop : Laptop D) (post : Post (Seat
       → (scripts : List Declared) → Refines (ClientStands medium scripts) (ArmsClient calls pick) laptop next x y tt
   arms calls pick live x y it scripts = by_name scripts (λ name. ArmsDisk name calls pick) x y it (λ m here n text step stands.
       let same : SameStates m.node n = rw step.1 (record { durable = refl; doubt = refl }) in
-      stands_at medium scripts laptop m (same_name medium scripts laptop m here) (same_link medium scripts laptop m here) post n stands
+      stands_at medium scripts laptop m here.name here.link post n stands
       (λ up.
-      let there = alive_stands medium scripts laptop m (ap (λ (n : Node ClientState). n.alive) (sym step.1) ∙ up) here in
+      let state = here.state (ap (λ (n : Node ClientState). n.alive) (sym step.1) ∙ up) in
       known_up medium laptop.place post n stands up m.first
       (ap (λ (b : Besides). b.begun) live
-      ∙ ap begun_of (lives_then (state_in laptop).running (live_in laptop) m.first m.node.durable.running there.state.running)
+      ∙ ap begun_of (lives_then (state_in laptop).running (live_in laptop) m.first m.node.durable.running state.running)
       ∙ begun_all m.first m.node.durable.running ∙ ap (λ (s : ClientState). live_with m.first s.running) (sym same.durable)))
-      (possibly_same m.node n same (may_be_named medium scripts laptop m here)))
+      (possibly_same m.node n same here.named))
 
 -- ---- a new laptop
 
@@ -165,10 +162,11 @@ module _ {D : Type 0} (medium : Medium D) (disk : D) (empty : IsEmpty medium dis
   }
 
   pub new_stands : (name : List ℕ) (link : LinkState) → link ≡ links.opened → (scripts : List Declared)
-      → FallenStands medium scripts
+      → ClientStands medium scripts
       (record { name = name; place = place; post = Down (record { disk = disk; doubt = None }); link = link })
       (unopened_laptop name (counts_on medium disk))
-  new_stands name link linked scripts = search (rules, new_node)
+  new_stands name link linked scripts =
+      record { name = refl; link = linked; node = new_node; state = λ up. absurd cc; named = search rules }
 
 -- ---- it starts for the first time
 
@@ -195,15 +193,13 @@ module _ {D : Type 0} (medium : Medium D) (laptop : Laptop D) (new : IsUnopened 
 
     pub opens : (scripts : List Declared)
         → Refines (ClientStands medium scripts) OpensClient laptop (record laptop { post = post }) x y on
-    opens scripts =
-        (at_node medium laptop post OpensNode (λ m. m.name) x y on
-        (λ m here. (same_name medium scripts laptop m here, it.step m.node (node_stands medium scripts laptop m here)))
-        (λ m here n text step stands.
-        stands_at medium scripts laptop m (same_name medium scripts laptop m here) (same_link medium scripts laptop m here) post n stands
+    opens scripts = at_each (λ m here.
+        at_node medium laptop post OpensNode (λ m. m.name) here.name (it.step m.node here.node) (λ n text step stands.
+        stands_at medium scripts laptop m here.name here.link post n stands
         (λ up.
         none_up medium laptop.place post n stands up m.first
         (started_idle (sym (on_is (seating medium laptop.place) medium no_text post n stands) ∙ up)))
-        (possibly_same m.node n (opens_states laptop.name m.node n text on step) (may_be_named medium scripts laptop m here))))
+        (possibly_same m.node n (opens_states laptop.name m.node n text on step) here.named)))
 
 -- ---- a restart
 
@@ -214,7 +210,7 @@ pub record CameBack {D : Type 0} (medium : Medium D) (old : Laptop D) (post : Po
   pub steps : Refines (Posted medium old) (ComesBack old.name no_text) old.post post x y on
   pub is : is_on post ≡ on
   pub came : (node : Node ClientState) → Posted medium old old.post node
-      → CameIf (seating medium old.place) medium on old.post (words_of Restart old.name) x y node
+      → CameIf (seating medium old.place) medium on old.post (words_of Restart old.name) x y node.durable node.doubt
 
 module _ {D : Type 0} (medium : Medium D) (old : Laptop D) where
   -- one that is alive is left as it is
@@ -225,8 +221,7 @@ module _ {D : Type 0} (medium : Medium D) (old : Laptop D) where
       (says_this wrote))
 
   pub is_standing : StandsAnyhow medium old → IsStanding (seating medium old.place) medium old.post
-  is_standing stands =
-      record { says = _; node = _; stands = node_stands medium stands.scripts old stands.machine stands.stands }
+  is_standing stands = record { says = _; node = _; stands = stands.stands.node }
 
   module _ (post : Post (Seated D) D) (x y : List ℕ) where
     abbrev mid : Laptop D
@@ -235,41 +230,42 @@ module _ {D : Type 0} (medium : Medium D) (old : Laptop D) where
     -- its node came back over this post, or it did not
     abbrev Turned : (scripts : List Declared) (on : Bool) → Laptop D → machine.Client → Type 0
     Turned scripts true laptop m = Before medium laptop scripts m
-    Turned scripts false laptop m = FallenStands medium scripts laptop m
+    Turned scripts false laptop m = ClientStands medium scripts laptop m
 
     module _ {on : Bool} (back : CameBack medium old post x y on) (scripts : List Declared) where
-      turns : (m : machine.Client) → FallenStands medium scripts old m
+      turns : (m : machine.Client) → ClientStands medium scripts old m
           → StepFrom (Turned scripts on) (At machine.node (ComesBack old.name no_text)) m mid x y on
-      turns m down = at_one {P = FallenStands medium scripts}
-          (at_node medium old post (λ name. ComesBack name no_text) (λ _. old.name) x y on
-          (λ m down. (refl, back.steps.step m.node down.node))
-          (λ m down n text step there.
+      turns m down =
+          at_node medium old post (λ name. ComesBack name no_text) (λ _. old.name) refl (back.steps.step m.node down.node)
+          (λ n text step there.
           let alive : n.alive ≡ on = on_is (seating medium old.place) medium no_text post n there ∙ back.is in
           let named = (comes_within old.name no_text m.node n text on step).each (AreNamed scripts) down.named in
-          (elim on as (λ on. n.alive ≡ on → Turned scripts on mid (record m { node = n }))
-          [ true ↦ λ alive. let named = named.is in search rules | false ↦ λ alive. search rules ]) alive))
-          down
+          (elim on as (λ on. n.alive ≡ on → Turned scripts on mid (record m { node = n })) [
+            | true ↦ λ alive. let named = named.is in search rules
+            | false ↦ λ alive.
+                stands_at medium scripts old m down.name down.link post n there (λ up. absurd (not_both (sym up ∙ alive))) named
+          ]) alive)
 
       -- what it does then makes the whole of its restart
       restarts : (new : Laptop D) (z : List ℕ)
           → ((k : machine.Client) → Turned scripts on mid k → StepFrom (ClientStands medium scripts) (goes_on CutsOff on) k new y z tt)
           → Refines (ClientStands medium scripts) RestartsClient old new x z tt
       restarts new z rest = at_each (λ m here.
-          let down = fallen_stands medium scripts old m back.off here in
-          let s = turns m down in
-          joined (quiet {P = FallenStands medium scripts} {a = false} m (refl, sym down.alive, refl) down)
-          (joined (quiet {P = FallenStands medium scripts} {a = old.name} m (refl, down.name, refl) down)
+          let s = turns m here in
+          let down : false ≡ m.node.alive = sym (node_is medium old m here.node ∙ back.off) in
+          joined (quiet {P = ClientStands medium scripts} {a = false} m (refl, down, refl) here)
+          (joined (quiet {P = ClientStands medium scripts} {a = old.name} m (refl, here.name, refl) here)
           (joined s (rest s.next s.stands))))
 
     -- ---- it has stopped again
 
     module _ (back : CameBack medium old post x y false) (scripts : List Declared) where
       pub stops_again : Refines (ClientStands medium scripts) RestartsClient old mid x y tt
-      stops_again = restarts back scripts mid y (λ k there. quiet k (refl, refl) (fallen there))
+      stops_again = restarts back scripts mid y (λ k there. quiet k (refl, refl) there)
 
       pub came_again : (m : machine.Client) → ClientStands medium scripts old m → Came medium old x y m
       came_again m here =
-          let s = back.steps.step m.node (fallen_stands medium scripts old m back.off here).node in
+          let s = back.steps.step m.node here.node in
           let said : s.0 ≡ stopped_line old.name = elim s.3 [ inl it ↦ absurd (not_both (sym it.0)) | inr stop ↦ stop.0 ] in
           record { on = false; mid = y; rest = []; came = tt; whole = sym (append-nil y); stopped = λ _. s.2 ∙ ap (λ t. x ++ t) said }
 
@@ -277,9 +273,7 @@ module _ {D : Type 0} (medium : Medium D) (old : Laptop D) where
 
     module _ (back : CameBack medium old post x y true) where
       pub is_back : StandsAnyhow medium old → Returned medium mid
-      is_back stands =
-          let down = fallen_stands medium stands.scripts old stands.machine back.off stands.stands in
-          record { scripts = _; machine = _; stands = (turns back stands.scripts stands.machine down).stands }
+      is_back stands = record { scripts = _; machine = _; stands = (turns back stands.scripts stands.machine stands.stands).stands }
 
       module _ (new : Laptop D) (z : List ℕ) (cut : CutsAll medium mid new y z) (scripts : List Declared) where
         all_cut : (k : machine.Client) → Turned scripts true mid k → StepFrom (ClientStands medium scripts) CutsOff k new y z tt
@@ -292,15 +286,10 @@ module _ {D : Type 0} (medium : Medium D) (old : Laptop D) where
 
         pub came_back : (m : machine.Client) → ClientStands medium scripts old m → Came medium old x z m
         came_back m here =
-            let down : FallenStands medium scripts old m = fallen_stands medium scripts old m back.off here in
-            let t = all_cut _ (turns back scripts m down).stands in
-            record { on = true; mid = y; rest = t.text; came = back.came m.node down.node; whole = t.wrote; stopped = λ never. absurd cc }
+            let t = all_cut _ (turns back scripts m here).stands in
+            record { on = true; mid = y; rest = t.text; came = back.came m.node here.node; whole = t.wrote; stopped = λ never. absurd cc }
 
 -- ---- its disk
-
-faults_then : (before between now : ℕ) → (between ≡ before) ⊎ Rose before between
-    → (now ≡ between) ⊎ Rose between now → (now ≡ before) ⊎ Rose before now
-faults_then before between now one two = grind (arith, one, two)
 
 pub keeps_then : {D I : Type 0} (medium : Storing D I) (old between new : Option D) → KeepsDisk medium old between
     → KeepsDisk medium between new → KeepsDisk medium old new
@@ -312,13 +301,14 @@ keeps_then medium old between new first second =
       old_has = first.old_has;
       new_has = second.new_has;
       arms = second.arms ∙ ap medium.arms (sym same) ∙ first.arms;
-      faults =
-          faults_then (medium.faults first.was) (medium.faults first.now) (medium.faults second.now) first.faults
-          (rw (← same) at second.faults);
+      faults = grind (arith, first.faults, rw (← same) at second.faults);
     }
 
 -- nothing was done
 pub keeps_any : {D : Type 0} (medium : Medium D) (old : Laptop D) → StandsAnyhow medium old → KeepsDisk medium (disk_by old.post)
     (disk_by old.post)
-keeps_any medium old stands =
-    keeps_post medium old.post (λ is. rw is at (node_stands medium stands.scripts old stands.machine stands.stands))
+keeps_any medium old stands = by old.post stands.stands.node
+  where
+    by : (post : Post (Seated _) _) → Posted medium old post stands.machine.node → KeepsDisk medium (disk_by post) (disk_by post)
+    by Between here = absurd here
+    by post here = record { was = _; now = _; old_has = refl; new_has = refl; arms = refl; faults = inl refl }

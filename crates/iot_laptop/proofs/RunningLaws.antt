@@ -1,28 +1,28 @@
 -- A call on a transaction that runs first makes it yield; and how one begins, makes a step, and ends.
-use Rattle.{std.proofs.Common.◌+◌, std.specs.List.list_any, iot_acts.specs.Traces.ActsHold}
+use Rattle.{std.proofs.Common.◌+◌, iot_acts.specs.Traces.ActsHold}
 use Rattle.iot_changes.specs.declared.changes.Change.TheVariants.{Acted, Again, Begun, Ended}
 use Rattle.iot_client.specs.Calls.{CanAct, CutsOffEnd, CutsOffNext, Differs, EndIs, IsSoOfRun}
 use Rattle.iot_client.specs.Calls.{StepIs, joining, lives_after, next_acts, other_lives, starting, with_live, yielded, yielded_to}
 use Rattle.iot_client.specs.declared.{ended.Ended.Ended as EndedIs, steps.Step.Step}
 use Rattle.iot_kept.{proofs.SyncedLaws.synced_numbered, specs.States.view}
 use Rattle.iot_laptop.proofs.CallsLaws.{Called, Known, answered_so, from_known, goes_trails, known_was, notes_at, notes_halt}
-use Rattle.iot_laptop.proofs.Common.{Asks, Bool, CanFollow, ChangesClasses, Client, ClientFault, ClientStands, ClientState}
-use Rattle.iot_laptop.proofs.Common.{Code, CutsOff, Declared, EndsAlone, Err, Halt, IfOk, IfOk-at_ok, IfOk-weaker, IsErrOf, IsFirstOf}
+use Rattle.iot_laptop.proofs.Common.{Asks, Bool, CanFollow, ChangesClasses, Client, ClientFault, ClientStands}
+use Rattle.iot_laptop.proofs.Common.{Code, CutsOff, Declared, EndsAlone, Err, Halt, IfOk, IfOk-at_ok, IfOk-weaker, IsErrOf}
 use Rattle.iot_laptop.proofs.Common.{IsScript, Item, KeepsTrails, KeptLive, Laptop, LaptopStands, List, Live, Medium, NoMemory, None}
 use Rattle.iot_laptop.proofs.Common.{Notes, NotesAlone, Ok, OnOk, Option, Over, Reclassed, Result, Some, State, StateKept, StepsTo, Stopped}
 use Rattle.iot_laptop.proofs.Common.{Transaction, UnlessNoMemory, acts_output, after, answers, ap, append-nil, arith, asks, at_each, at_one}
-use Rattle.iot_laptop.proofs.Common.{bind, disk_of, does, done, false, joined, live_in, live_numbered, live_of, may_end_if_any, numbered}
+use Rattle.iot_laptop.proofs.Common.{bind, disk_of, does, done, false, joined, live_in, live_numbered, live_of, numbered}
 use Rattle.iot_laptop.proofs.Common.{quiet, records_of, refl, rules, same_Some, second_class, stamps_by, stamps_in, stamps_of, stands_so}
-use Rattle.iot_laptop.proofs.Common.{state_by, state_in, state_of, subst, sym, transaction_name, true, ℕ, [], ◌++◌, ◌==◌, ◌∙◌, ◌∷◌, ◌≡◌}
-use Rattle.iot_laptop.proofs.NodesLaws.{reclasses}
-use Rattle.iot_laptop.specs.Alone.{CertifiesAlone, ComparesAlone, StartsAlone, YieldsAlone, change_by, set_class, yielding, yields_by}
-use Rattle.iot_laptop.specs.Below.{Compared, Same, has_any, option_map, waits_of}
-use Rattle.iot_laptop.specs.Calls.{Begins, IsDoneIn, IsGoneIfAny, NextIs, TakesStep, acts_by, certified_if, compared_if, waits_after}
+use Rattle.iot_laptop.proofs.Common.{state_by, state_in, state_of, subst, sym, transaction_name, true, ℕ, [], ◌++◌, ◌∙◌, ◌∷◌, ◌≡◌}
+use Rattle.iot_laptop.{proofs.CallsLaws.unless_done, proofs.NodesLaws.reclasses}
+use Rattle.iot_laptop.specs.Alone.{CertifiesAlone, ComparesAlone, StartsAlone, YieldsAlone, change_by, set_class, yielding}
+use Rattle.iot_laptop.specs.Below.{Compared, Same, has_any, option_map}
+use Rattle.iot_laptop.specs.Calls.{Begins, IsGoneIfAny, NextIs, TakesStep, acts_by, certified_if, compared_if}
 use Rattle.iot_machine.{proofs.StepsLaws.gets, specs.Calls.Answers, specs.Calls.unless_over, specs.Clients.act_once, specs.Clients.begin}
-use Rattle.{iot_machine.specs.Clients.next_step, iot_machine.specs.Machine.classed, iot_node.specs.Steps.EndsBy}
-use Rattle.iot_standing.proofs.KeptLaws.{acted_live, again_live, begun_live, ended_live, ended_waits, parts as reads_part, same_reads}
+use Rattle.{iot_machine.specs.Machine.classed, iot_node.specs.Steps.EndsBy}
+use Rattle.iot_standing.proofs.KeptLaws.{acted_live, again_live, begun_live, ended_live, parts as reads_part, same_reads}
 use Rattle.iot_standing.proofs.{KeptLaws.yielded_live, KeptLaws.yields, RunsLaws.SoOf, RunsLaws.kept_as, RunsLaws.kept_both}
-use Rattle.iot_standing.proofs.{RunsLaws.number_found, RunsLaws.own_number, RunsLaws.so_of, StatesLaws.acts_is, StatesLaws.may_end_is}
+use Rattle.iot_standing.proofs.{RunsLaws.number_found, RunsLaws.own_number, RunsLaws.so_of, StatesLaws.acts_is}
 use Rattle.iot_standing.{proofs.StatesLaws.next_is, proofs.StatesLaws.one_is, specs.Kept.RunningKept, specs.States.RunningStands}
 use Rattle.iot_tree.specs.declared.{acts.Act.Act, labels.OnConflict.OnConflict as OnConflictNamed, questions.Question.Question}
 use Rattle.iot_machine.specs.Clients as clients
@@ -35,21 +35,9 @@ use Rattle.iot_laptop.specs.Alone as alones
 
 -- ---- one yields
 
-yields_by_is : (number : ℕ) (pends : Bool) (client : machine.Client)
-    → yields_by number pends client ≡ record client { first = yields number pends client.first }
-yields_by_is number true client = refl
-yields_by_is number false client = refl
-
 -- those of first class then
 abbrev pub first_then : (number : ℕ) → machine.Client → List ℕ
 first_then number m = yields number (has_any m.node.durable.items) m.first
-
-pub yielding_is : (number : ℕ) (client : machine.Client) → yielding number client ≡ record client { first = first_then number client }
-yielding_is number client = yields_by_is number (has_any client.node.durable.items) client
-
-pub class_then : (number : ℕ) (m : machine.Client) (it : clients.Running)
-    → list_any (λ n. n == it.number) (first_then number m) ≡ machine.is_first it.number (yielding number m)
-class_then number m it = ap (λ (k : machine.Client). list_any (λ n. n == it.number) k.first) (sym (yielding_is number m))
 
 -- one that is first class then has yielded to none
 second_of : (number : ℕ) (running : List Transaction) (lives : List Live) (live : Live)
@@ -75,8 +63,7 @@ module _ {D : Type 0} {medium : Medium D} {laptop : Laptop D} {was now : Client 
       → IfOk answer (λ number. number ≡ (state_of was).last + 1)
       → IfOk answer (λ number. Notes (Begun number script.name option) was now)
       → OnOk answer (live_of now ≡ live_of was ++ record { first = first; code = Some script.code } ∷ [])
-      → (IsErrOf answer Stopped → CutsOff (Begun ((state_of was).last + 1) script.name option) (state_of was) (records_of was)
-      (medium.may_leave (disk_of now)))
+      → (IsErrOf answer Stopped → CutsOff (Begun given script.name option) (state_of was) (records_of was) (medium.may_leave (disk_of now)))
       → Begins medium script option first laptop new x y result
   begins script option first script_is numbers notes lives stops scripts on_conflict named has same = record { is = by result refl }
     where
@@ -118,13 +105,6 @@ module _ {D : Type 0} {medium : Medium D} {laptop : Laptop D} {was now : Client 
           kept is (stops (call.goes.stopped is))))
           (answers (λ m here. here)))
 
--- one that may end has done all that it may do
-pub is_done : {D : Type 0} (medium : Medium D) (number : ℕ) (laptop : Laptop D)
-    → may_end_if_any (numbered number (state_in laptop).running) (live_numbered number (state_in laptop).running (live_in laptop)) ≡ true
-    → IsDoneIn medium number laptop
-is_done medium number laptop may scripts m it here runs =
-    (may_end_is (state_in laptop) (live_in laptop) m.first m.node.durable here.state number it runs).0 may (machine.is_first it.number m)
-
 -- ---- a call on one that runs, which is first to yield
 
 module _ {D : Type 0} (was : Client D) (number : ℕ) where
@@ -146,7 +126,7 @@ module _ {D : Type 0} (was : Client D) (number : ℕ) where
 
       -- so it is if the client of the machine has yielded, and the laptop has not yet
       pub known_yielded : Known medium scripts s known laptop (yielding number m)
-      known_yielded = subst (Known medium scripts s known laptop) (sym (yielding_is number m)) (search (rules, known_then))
+      known_yielded = search (rules, known_then)
 
       -- one that the client finds is the one that the machine finds
       pub found_then : (it : clients.Running) → clients.numbered number m.node.durable ≡ Some it → (own : Transaction) (live : Live)
@@ -189,7 +169,7 @@ module _ {D : Type 0} (was : Client D) (number : ℕ) where
     stays step ok same =
         let done : answer ≡ Ok step = answered_so call step ok in (
           subst (Reclassed medium (yielding number) laptop) (sym (IfOk-at_ok _ ok call.goes.same))
-              (reclasses call.up same (IfOk-at_ok _ done call.tied) (yielding number) (first_then number) (yielding_is number)
+              (reclasses call.up same (IfOk-at_ok _ done call.tied) (first_then number)
               (λ scripts m here. IfOk-at_ok _ done lives ∙ (known_then call scripts m here).runs)),
           IfOk-at_ok _ ok call.goes.silent,
         )
@@ -206,13 +186,11 @@ module _ {D : Type 0} (was : Client D) (number : ℕ) where
         let after : live_in new ≡ known =
         ap live_in (IfOk-at_ok _ same call.goes.same) ∙ IfOk-at_ok _ (answered_so call (steps.Fetch request path) same) lives in
         let state : state_in new ≡ s = kept.0.state ∙ ap state_by call.up in
-        let stamps : stamps_in new ≡ stamps_of was = kept.0.stamps ∙ ap stamps_by call.up in
-        let found : live_numbered number (state_in new).running (live_in new) ≡ Some it.besides =
-        (λ i. live_numbered number (state i).running (after i)) ∙ it.lives in (
+        let stamps : stamps_in new ≡ stamps_of was = kept.0.stamps ∙ ap stamps_by call.up in (
           kept.0,
           kept.1,
           rw (kept.0.place, ← call.placed, stamps) it.so.0,
-          subst IsFirstOf (sym found) it.so.1.first_class,
+          rw (state, after, it.lives) it.so.1.first_class,
           ap (λ (s : State). s.items) state ∙ none_waits s.items number s.running (live_of was) it.besides it.lives it.so.1.first_class,
         )
     steps_by (Ok (steps.AtEnd acts)) same = stays (steps.AtEnd acts) same (stepped (steps.AtEnd acts) same).so.2
@@ -228,21 +206,19 @@ module _ {D : Type 0} (was : Client D) (number : ℕ) where
     pub next_by : (r : Result Step Halt) → result ≡ r → NextIs medium number laptop r
     next_by (Ok step) same = λ scripts m it here runs.
         let so = stepped step same in
-        rw (← class_then number m it)
-        (next_is so.own so.besides (first_then number m) it
-        (found_then call scripts m here it runs so.own so.besides so.is so.lives) so.code so.has was now step so.so)
+        next_is so.own so.besides (first_then number m) it
+        (found_then call scripts m here it runs so.own so.besides so.is so.lives) so.code so.has was now step so.so
     next_by (Err NoMemory) same = tt
     next_by (Err Over) same = λ scripts m it here runs.
         let so = halted same in
-        rw (← class_then number m it)
-        (acts_is so.own so.besides (first_then number m) it
-        (found_then call scripts m here it runs so.own so.besides so.is so.lives) so.code so.has so.so.can)
+        acts_is so.own so.besides (first_then number m) it
+        (found_then call scripts m here it runs so.own so.besides so.is so.lives) so.code so.has so.so.can
 
     -- a server's stamps are kept
     pub step_trails : UnlessNoMemory (done result) (KeepsTrails laptop new)
-    step_trails = goes_trails call (IfOk-weaker answer _ _ (λ step is.
+    step_trails = unless_done _ result (goes_trails call (IfOk-weaker answer _ _ (λ step is.
         let so : OfRun (λ it first code. StepIs was it first code step now) = so_of _ _ _ is in
-        client.step_trails medium was now so.own so.besides.first so.code step call.was_tied so.so) does) result refl
+        client.step_trails medium was now so.own so.besides.first so.code step call.was_tied so.so) does) result refl)
 
   -- ---- it ends
 
@@ -260,21 +236,18 @@ module _ {D : Type 0} (was : Client D) (number : ℕ) where
       -- the one that is certified is the one that the machine finds; it is compared with what is kept, and what was found is noted
       certifies : {after_it : Laptop D → machine.Client → Type 0} {z : List ℕ} {end : Laptop D} (what : Compared)
           (noted : Option (Unit {0}))
-          → ((m : ClientState) → StateKept s m → (it : clients.Running) → RunningKept own it → (client : machine.Client)
-          → client.node.durable ≡ m → ComparesAlone it client [] what client)
+          → ((k : machine.Client) → StateKept s k.node.durable → (it : clients.Running) → RunningKept own it
+          → ComparesAlone it k [] what k)
           → StepsTo (Known medium scripts s known) after_it (NotesAlone (change_by number what)) laptop end x z noted
           → StepsTo (LaptopStands medium scripts) after_it (CertifiesAlone number) laptop end x z (option_map (λ _. what) noted)
       certifies {after_it} {z} {end} what noted makes notes = at_each (λ m here.
           let there : Known medium scripts s known laptop (yielding number m) = known_yielded call scripts m here in
-          let kept = (known_then call scripts m here).kept in
+          let kept = there.kept.kept in
           let k = kept_as number s.running m.node.durable.running kept.running own found in
-          let durable : (yielding number m).node.durable ≡ m.node.durable =
-          ap (λ (k : machine.Client). k.node.durable) (yielding_is number m) in
           joined (quiet {P = LaptopStands medium scripts} {a = Some k.it} m (refl, sym k.is, refl) here)
           (rw (number_found number m.node.durable.running k.it k.is)
           (joined (quiet {P = Known medium scripts s known} {a = tt} (yielding number m) (refl, refl) there)
-          (joined (quiet {P = Known medium scripts s known} {a = what} (yielding number m)
-          (makes m.node.durable kept k.it k.kept (yielding number m) durable) there)
+          (joined (quiet {P = Known medium scripts s known} {a = what} (yielding number m) (makes _ kept k.it k.kept) there)
           (at_one (bind {a = noted} notes (goes noted)) there)))))
         where
           goes : (a : Option (Unit {0}))
@@ -283,18 +256,18 @@ module _ {D : Type 0} (was : Client D) (number : ℕ) where
           goes (Some u) = answers (λ m here. here)
 
       -- what holds on the view, ..
-      same_there : CanFollow s (Ended own.number) → (m : ClientState) → StateKept s m → (it : clients.Running) → RunningKept own it
-          → (client : machine.Client) → client.node.durable ≡ m → ComparesAlone it client [] Same client
-      same_there follows m kept it run client is =
+      same_there : CanFollow s (Ended own.number) → (k : machine.Client) → StateKept s k.node.durable → (it : clients.Running)
+          → RunningKept own it → ComparesAlone it k [] Same k
+      same_there follows k kept it run =
           let holds : ActsHold (view s) own.acts = rw (own_number number s.running own found, found) at follows in
-          alones.same (rw is (same_reads s m kept own it run holds)) refl refl refl
+          alones.same (same_reads s k.node.durable kept own it run holds) refl refl refl
 
       -- .. and what parts there
-      parts_there : (read : ℕ) (question : Question) → Differs (view s) own read question → (m : ClientState) → StateKept s m
-          → (it : clients.Running) → RunningKept own it → (client : machine.Client) → client.node.durable ≡ m
-          → ComparesAlone it client [] (compares.Differs read question) client
-      parts_there read question differs m kept it run client is =
-          alones.parts read question (rw is (reads_part s m kept own it run read question differs)) refl refl refl
+      parts_there : (read : ℕ) (question : Question) → Differs (view s) own read question → (k : machine.Client)
+          → StateKept s k.node.durable → (it : clients.Running) → RunningKept own it
+          → ComparesAlone it k [] (compares.Differs read question) k
+      parts_there read question differs k kept it run =
+          alones.parts read question (reads_part s k.node.durable kept own it run read question differs) refl refl refl
 
     -- it is certified, or stops in that
     pub ends_by : (r : Result EndedIs Halt) → result ≡ r → (scripts : List Declared)
@@ -339,30 +312,20 @@ module _ {D : Type 0} (was : Client D) (number : ℕ) where
         let stands = found_then call scripts m here it runs so.own so.besides so.is so.lives in
         record {
           name = λ i. transaction_name (here.name i) ((so.so.0 ∙ same.number) i);
-          class = so.so.1 ∙ stands.class ∙ class_then number m it;
-          did =
-              printed ∙ ap (λ (s : State). acts_output (acts_by (numbered number s.running))) (ap state_by call.up)
-              ∙ ap (λ (o : Option Transaction). acts_output (acts_by o)) so.is ∙ ap acts_output same.acts;
+          class = so.so.1 ∙ stands.class;
+          did = (rw (call.up, so.is) at printed) ∙ ap acts_output same.acts;
         }
     is_gone printed (Ok (ends.Again read question)) ok = tt
     is_gone printed (Err halt) over = tt
 
-    pub waits_then : (r : Result EndedIs Halt) → result ≡ r → waits_after new (certified_if laptop.name output r)
-    waits_then (Ok (ends.Joined tid class)) ok =
-        let so = did (ends.Joined tid class) ok in
-        ap (λ (l : Laptop D). waits_of (state_in l).items) (IfOk-at_ok _ ok call.goes.same)
-        ∙ ap (λ (s : State). waits_of s.items) so.so.2.notes.state ∙ ended_waits s so.own.number so.so.2.notes.follows
-    waits_then (Ok (ends.Again read question)) ok = tt
-    waits_then (Err halt) over = tt
-
     -- a server's stamps are kept
-    pub end_trails : (r : Result EndedIs Halt) → result ≡ r
-        → UnlessNoMemory (done (certified_if laptop.name output r)) (KeepsTrails laptop new)
-    end_trails r same = rw (certified_done r) (goes_trails call (IfOk-weaker answer _ _ (λ ended is.
+    pub end_trails : UnlessNoMemory (compared_if (certified_if laptop.name output result)) (KeepsTrails laptop new)
+    end_trails = by _ result (goes_trails call (IfOk-weaker answer _ _ (λ ended is.
         let so : OfRun (λ it first code. EndIs was it first code ended now) = so_of _ _ _ is in
-        client.end_trails medium was now so.own so.besides.first so.code ended call.was_tied so.so) does) r same)
+        client.end_trails medium was now so.own so.besides.first so.code ended call.was_tied so.so) does) result refl)
       where
-        certified_done : (r : Result EndedIs Halt) → done (certified_if laptop.name output r) ≡ done r
-        certified_done (Ok (ends.Joined tid class)) = refl
-        certified_done (Ok (ends.Again read question)) = refl
-        certified_done (Err halt) = refl
+        by : (P : Type 0) (r : Result EndedIs Halt) → UnlessNoMemory r P
+            → UnlessNoMemory (compared_if (certified_if laptop.name output r)) P
+        by P (Ok (ends.Joined tid class)) so = so
+        by P (Ok (ends.Again read question)) so = so
+        by P (Err halt) so = so

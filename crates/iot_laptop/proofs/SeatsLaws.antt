@@ -130,13 +130,6 @@ module _ {D : Type 0} (medium : Medium D) where
     counts_by faults.Stopped left takes cause arms = record { faults = cause; arms = arms }
     counts_by other left takes cause arms = absurd takes
 
-    -- it stands for some state
-    stands_for : (place : ℕ) → CanStart (seating medium place) (medium.reads disk) → (state : State) × StandFor (medium.reads disk) state
-    stands_for place can = elim can.either [
-      | inl is ↦ (is.state, is.stands.stands)
-      | inr is ↦ (is.state, is.stands.stands)
-    ]
-
     pub seat_fails : (place : ℕ) (fault : StartFault) (left : D) → CanStart (seating medium place) (medium.reads disk)
         → ((state : State) → StandFor (medium.reads disk) state → causes.TakesBytes fault)
         → causes.HasCause kept_rules fault (medium.reads disk) (medium.faults disk) (medium.faults left)
@@ -144,5 +137,6 @@ module _ {D : Type 0} (medium : Medium D) where
         → EachStands (medium.may_leave left) (records_in (medium.reads disk)) state) → medium.arms left ≡ medium.arms disk
         → Fails (seating medium place) medium disk left fault
     seat_fails place fault left can never cause images arms =
-        let here = stands_for place can in
-        record { images = hold_same place (medium.may_leave left) images; counts = counts_by fault left (never here.0 here.1) cause arms }
+        let takes : causes.TakesBytes fault =
+        elim can.either [ inl is ↦ never is.state is.stands.stands | inr is ↦ never is.state is.stands.stands ] in
+        record { images = hold_same place (medium.may_leave left) images; counts = counts_by fault left takes cause arms }

@@ -25,12 +25,12 @@ StartsAlone script option first =
     Goes (NotesAlone (begin script option)) (λ _. Gets (λ _. Some number) (set_class number first)))
 
 -- if transactions wait, the running one with this number is second class from now on
-abbrev pub yields_by : (number : ℕ) → (pends : Bool) → Client → Client
-yields_by number true client = set_class number false client
-yields_by number false client = client
+abbrev pub yields_by : (number : ℕ) → (pends : Bool) → List ℕ → List ℕ
+yields_by number true first = classed number false first
+yields_by number false first = first
 
 abbrev pub yielding : (number : ℕ) → Client → Client
-yielding number client = yields_by number (has_any client.node.durable.items) client
+yielding number client = record client { first = yields_by number (has_any client.node.durable.items) client.first }
 
 abbrev pub YieldsAlone : (number : ℕ) → Part Client
 YieldsAlone number = Does (λ _. []) (yielding number)

@@ -4,13 +4,14 @@ use Rattle.iot_access.specs.Access.{access_of, lines_of}
 use Rattle.iot_client.specs.Messages.{IsWholeRequest, label_of, resolved_label}
 use Rattle.iot_client.specs.declared.{ended.Ended.Ended, fault.ClientFault.ClientFault, steps.Step.Step}
 use Rattle.{iot_disk.specs.declared.faults.JournalFault.JournalFault, iot_kept.specs.States.Transaction}
-use Rattle.iot_laptop.specs.Alone.{NotesAlone, StartsAlone, YieldsAndNotes, yielding}
+use Rattle.iot_laptop.specs.{Alone.NotesAlone, Alone.StartsAlone, Alone.YieldsAndNotes, Alone.yielding, Below.[]}
 use Rattle.iot_laptop.specs.Below.{AreNamed, Bool, ClientState, Compared, Declared, Differs, IfOk, IsErrOf, IsRefresh}
-use Rattle.iot_laptop.specs.Below.{IsSubmitted, Laptop, List, Medium, Nodes, None, OnOk, Option, Plan, PostStands, Read, Same, Seated}
-use Rattle.iot_laptop.specs.Below.{Some, Spells, SpellsVerdict, Stamps, State, Try, Up, acts_output, brought, cut_line, false, length}
-use Rattle.iot_laptop.specs.Below.{name_of, no_text, nothing_held, numbered, option_map, reads_of, records_of, true, waits_of, ℕ, []}
-use Rattle.iot_laptop.specs.Laptops.{ClientStands, IsFirst, LaptopStands, NodeStands, Reclassed, is_alive, stamps_in, state_in}
-use Rattle.iot_laptop.specs.{Messages.verdict_of, Seats.seating}
+use Rattle.iot_laptop.specs.Below.{IsSubmitted, KeepsDisk, Laptop, List, Medium, Nodes, None, OnOk, Option, Plan, PostStands, Read, Same}
+use Rattle.iot_laptop.specs.Below.{Seated, Some, Spells, SpellsVerdict, Stamps, State, Try, Up, acts_output, brought, cut_line, false}
+use Rattle.iot_laptop.specs.Below.{length, name_of, no_text, nothing_held, numbered, option_map, reads_of, records_of, true, ℕ}
+use Rattle.iot_laptop.specs.Laptops.{ClientStands, IsFirst, KeepsTrails, LaptopStands, NodeStands, Reclassed, SamePlace}
+use Rattle.iot_laptop.specs.Laptops.{disk_in, is_alive, stamps_in, state_in}
+use Rattle.iot_laptop.specs.{Messages.SpellsTree, Messages.verdict_of, Seats.seating}
 use Rattle.iot_laptop.specs.declared.needs.Certified.{Certified, TheVariants.Again, TheVariants.Joined}
 use Rattle.iot_laptop.specs.declared.needs.{Gone.Gone, Need.Need, Submitted.Submitted, Undecided.Undecided, Undecided.TheVariants.NotManual}
 use Rattle.iot_laptop.specs.declared.{needs.Undecided.TheVariants.Nothing, verdict.Told.Told}
@@ -20,9 +21,10 @@ use Rattle.iot_node.specs.{Keeping.Appended, Posts.Answered, Posts.CameIf, Posts
 use Rattle.iot_node.specs.declared.{comeback.Comeback.TheVariants.Restart, halt.Halt.Halt}
 use Rattle.iot_node.specs.declared.halt.Halt.TheVariants.{NoMemory, Over}
 use Rattle.iot_queue.specs.declared.items.{Item.Item, Stage.Stage}
-use Rattle.iot_standing.specs.{Scripts.HasNamed, Scripts.IsNamed, Scripts.option_named, States.IsOver, States.head_option, States.head_plan}
+use Rattle.iot_standing.specs.{Scripts.HasNamed, Scripts.IsNamed, Scripts.option_named, States.head_option, States.head_plan}
 use Rattle.{iot_standing.specs.States.next_as, iot_standing.specs.States.told_change, iot_tree.specs.declared.access.Access.Access}
 use Rattle.iot_tree.specs.declared.{acts.Act.Act, changes.Changes.Changes as RowChanges, labels.Label.Label, labels.OnConflict.OnConflict}
+use Rattle.iot_tree.specs.Profiles.{IsProfile, IsWalkLimit}
 use Rattle.iot_wire.specs.{Messages.IsMessage, Rules.IsRequest, Spelling.request_spelling, declared.requests.Request.TheVariants.Commit}
 use Rattle.iot_wire.specs.declared.replies.Reply.TheVariants as replies
 use Rattle.iot_tree.specs.declared.want.Want.TheVariants as wanted
@@ -39,6 +41,8 @@ use Rattle.iot_machine.specs.Options as options
 use Rattle.iot_machine.specs.Serving as serving
 use Rattle.iot_node.specs.declared.lines.Transaction as names
 use Rattle.iot_laptop.specs.declared.needs.Need.TheVariants as needs
+use Rattle.iot_laptop.specs.declared.errand.Errand as code
+use Rattle.iot_laptop.specs.declared.errand.Errand.TheVariants as errands
 
 -- ---- a record
 
@@ -68,10 +72,15 @@ pub record GoesOn {D T : Type 0} (medium : Medium D) (old new : Laptop D) (count
   pub rest : new ≡ record old { post = new.post }
 
 -- what is so unless memory ran out
-abbrev pub UnlessNoMemory : Result (Unit {0}) Halt → Type 0 → Type 0
-UnlessNoMemory (Ok t) P = P
+abbrev pub UnlessNoMemory : {A : Type 0} → Result A Halt → Type 0 → Type 0
 UnlessNoMemory (Err NoMemory) P = Unit {0}
-UnlessNoMemory (Err Over) P = P
+UnlessNoMemory other P = P
+
+-- it is where it was, over its disk; and unless memory ran out it has what it had of a server's stamps
+pub record Keeps {D A : Type 0} (medium : Medium D) (old new : Laptop D) (result : Result A Halt) : Type 0 where
+  pub place : SamePlace old new
+  pub disk : KeepsDisk medium (disk_in old) (disk_in new)
+  pub trails : UnlessNoMemory result (KeepsTrails old new)
 
 -- it holds what the changes of the reply make of this tree; or it is down
 abbrev pub TakesStamps : {D T : Type 0} → (base : Stamps) → (reply : List ℕ) → (old new : Laptop D) → Result T Halt → Type 0
@@ -122,6 +131,42 @@ Plans medium scripts laptop plan =
 abbrev pub Resolves : {D : Type 0} → Medium D → List Declared → Plan → (t : Nodes) → Outcome D (Unit {0})
 Resolves medium scripts plan t old new x y result =
     EndsAlone medium scripts (NotesAlone (reach (clients.Resolved (resolution_of plan t)))) old new x y result
+
+-- ---- what it asks for
+
+-- for what it asks, as the machine says it
+abbrev pub errand_of : code.Errand → serving.Errand
+errand_of (errands.Refresh want) = serving.Refresh want.now
+errand_of (errands.Fetch number path) = serving.Refresh (wanted.Path path.now)
+errand_of (errands.Walk profile limit) = serving.Walk profile.now limit
+
+-- it has a spelling
+abbrev pub MayAsk : code.Errand → Type 0
+MayAsk (errands.Walk profile limit) = IsProfile profile.now × IsWalkLimit limit
+MayAsk errand = Unit {0}
+
+-- no transaction begins anew for it
+abbrev pub IsNoFetch : code.Errand → Type 0
+IsNoFetch (errands.Fetch number path) = ⊥
+IsNoFetch errand = Unit {0}
+
+-- what is fetched is for one of first class
+abbrev pub MayTake : {D : Type 0} → code.Errand → Laptop D → Type 0
+MayTake (errands.Fetch number path) laptop = IsFirst number laptop
+MayTake errand laptop = Unit {0}
+
+-- how the tree that was brought for it is held
+abbrev pub held_for : code.Errand → Nodes → ClientState → ClientState
+held_for (errands.Fetch number path) t = clients.fetch number t
+held_for errand t = clients.hold t
+
+-- what the reply brings, merged into this tree, is held so, or it has stopped in that
+pub record TakesReply {D : Type 0} (medium : Medium D) (held : Nodes → ClientState → ClientState) (base : Stamps) (reply : List ℕ)
+    (old new : Laptop D) (x y : List ℕ) (result : Result (Unit {0}) Halt) : Type 0 where
+  pub does : (t : Nodes) → SpellsTree base reply t → Changes medium (held t) old new x y result
+  pub stamps : TakesStamps base reply old new result
+  pub place : SamePlace old new
+  pub disk : KeepsDisk medium (disk_in old) (disk_in new)
 
 -- ---- the first that waits
 
@@ -229,12 +274,6 @@ abbrev pub acts_by : Option Transaction → List Act
 acts_by None = []
 acts_by (Some it) = it.acts
 
--- in each client for which it stands the transaction with this number has done all that it may do
-abbrev pub IsDoneIn : {D : Type 0} → Medium D → (number : ℕ) → Laptop D → Type 0
-IsDoneIn medium number laptop =
-    (scripts : List Declared) (m : machine.Client) (it : clients.Running) → LaptopStands medium scripts laptop m
-    → clients.numbered number m.node.durable ≡ Some it → IsOver (next_step (machine.is_first it.number m) it)
-
 -- what became of a transaction of the client of this name, which has printed this
 abbrev pub certified_if : (name output : List ℕ) → Result Ended Halt → Result Certified Halt
 certified_if name output (Ok (ends.Joined tid class)) =
@@ -262,11 +301,6 @@ IsGoneIfAny medium number laptop (Joined gone) =
     (scripts : List Declared) (m : machine.Client) (it : clients.Running) → LaptopStands medium scripts laptop m
     → clients.numbered number m.node.durable ≡ Some it → IsEndOf number gone m it
 IsGoneIfAny medium number laptop (Again read question) = Unit {0}
-
--- then one waits
-abbrev pub waits_after : {D : Type 0} → Laptop D → Result Certified Halt → Type 0
-waits_after laptop (Ok (Joined gone)) = waits_of (state_in laptop).items ≡ true
-waits_after laptop other = Unit {0}
 
 -- ---- verdicts
 
@@ -304,7 +338,7 @@ pub record Came {D : Type 0} (medium : Medium D) (old : Laptop D) (x y : List �
   pub on : Bool
   pub mid : List ℕ
   pub rest : List ℕ
-  pub came : CameIf (seating medium old.place) medium on old.post (words_of Restart old.name) x mid m.node
+  pub came : CameIf (seating medium old.place) medium on old.post (words_of Restart old.name) x mid m.node.durable m.node.doubt
   pub whole : y ≡ mid ++ rest
   pub stopped : on ≡ false → y ≡ x ++ stopped_line old.name
 
@@ -326,8 +360,8 @@ abbrev pub CutsFirst : {D : Type 0} → Medium D → Outcome D (Option (ℕ × �
 CutsFirst {D = D} medium old new x y (Ok (Some told)) =
     (last : Laptop D) (z : List ℕ) → CutsAll medium new last (y ++ cut_line (transaction_name new.name told.0) told.1) z
     → CutsAll medium old last x z
-CutsFirst medium old new x y (Ok None) = CutsAll medium old new x y
-CutsFirst medium old new x y (Err halt) = UnlessNoMemory (Err halt) (CutsAll medium old new x y)
+CutsFirst medium old new x y (Err NoMemory) = Unit {0}
+CutsFirst medium old new x y other = CutsAll medium old new x y
 
 -- if one was cut off, one less runs
 abbrev pub RunFewer : Option (ℕ × ℕ) → (old new : List Transaction) → Type 0

@@ -2,8 +2,8 @@
 use Rattle.std.specs.{Borrow.Fml, Borrow.Lends, Borrow.MutBor, Borrow.RattleType, Prelude.◌≡◌}
 use Rattle.{iot_client.specs.declared.client.Client.Client, iot_kept.specs.States.opening}
 use Rattle.iot_laptop.specs.Below.{AreNamed, Bool, Declared, IsEmpty, Laptop, List, Live, Medium, Nodes, None, Option, PostStands}
-use Rattle.iot_laptop.specs.Below.{Seated, Some, Stamps, State, Up, break, false, live_numbered, no_text, nothing_held, true, view, ℕ, []}
-use Rattle.iot_laptop.specs.{Seats.seating, contracts.laptop.Laptop.the_row}
+use Rattle.iot_laptop.specs.Below.{Seated, Some, Stamps, State, Up, break, live_numbered, no_text, nothing_held, true, view, ℕ, []}
+use Rattle.iot_laptop.specs.{Seats.seat_disk, Seats.seating, contracts.laptop.Laptop.the_row}
 use Rattle.iot_link.specs.declared.passages.Passage.{Passage}
 use Rattle.iot_machine.specs.{Clients.new_client, Machine.cut_off, Nodes.Counts, Nodes.unopened, Sound.Possibly}
 use Rattle.iot_node.specs.{Posts.disk_of, Posts.is_on, declared.post.Post.Post, declared.post.Post.TheVariants.Down}
@@ -58,7 +58,7 @@ records_in laptop = records_by laptop.post
 
 -- the disk of a client's node, which it has except inside a call that starts or stops it
 abbrev pub disk_by : {D : Type 0} → Post (Seated D) D → Option D
-disk_by post = disk_of (λ seated. client.disk_of seated.client) post
+disk_by post = disk_of seat_disk post
 
 abbrev pub disk_in : {D : Type 0} → Laptop D → Option D
 disk_in laptop = disk_by laptop.post
@@ -83,19 +83,14 @@ pub record LaptopStands {D : Type 0} (medium : Medium D) (scripts : List Declare
   pub state : StateStands (state_in laptop) (live_in laptop) m.first m.node.durable
   pub named : AreNamed scripts m.node.durable
 
--- one that is down
-pub record FallenStands {D : Type 0} (medium : Medium D) (scripts : List Declared) (laptop : Laptop D)
+-- one that is alive or down, among these scripts: also a record in doubt names none but them
+pub record ClientStands {D : Type 0} (medium : Medium D) (scripts : List Declared) (laptop : Laptop D)
     (m : machine.Client) : Type 0 where
   pub name : laptop.name ≡ m.name
   pub link : laptop.link ≡ m.link
-  pub alive : m.node.alive ≡ false
   pub node : NodeStands medium laptop m
+  pub state : m.node.alive ≡ true → StateStands (state_in laptop) (live_in laptop) m.first m.node.durable
   pub named : Possibly (AreNamed scripts) m.node
-
-pub data ClientStands {D : Type 0} (medium : Medium D) (scripts : List Declared) (laptop : Laptop D)
-    (m : machine.Client) : Type 0 where
-  awake : LaptopStands medium scripts laptop m → ClientStands medium scripts laptop m
-  fallen : FallenStands medium scripts laptop m → ClientStands medium scripts laptop m
 
 -- it is alive, and stands for some client, among some scripts
 pub record Stands {D : Type 0} (medium : Medium D) (laptop : Laptop D) : Type 0 where
@@ -157,23 +152,12 @@ after_passage passages.Away m = record m { first = [] }
 after_passage passages.Both m = m
 after_passage lost m = break m
 
--- its link is another now, and each that runs is first class or not
-pub record Relinked {D : Type 0} (medium : Medium D) (change : machine.Client → machine.Client)
-    (old new : Laptop D) : Type 0 where
-  pub place : SamePlace old new
-  pub state : state_in new ≡ state_in old
-  pub stamps : stamps_in new ≡ stamps_in old
-  pub stands : (scripts : List Declared) (m : machine.Client) → LaptopStands medium scripts old m
-      → LaptopStands medium scripts new (change m)
-
--- nothing but the classes of those that run is another now
+-- nothing but its link and the classes of those that run is another now
 pub record Reclassed {D : Type 0} (medium : Medium D) (change : machine.Client → machine.Client) (old new : Laptop D) : Type 0 where
   pub place : SamePlace old new
   pub state : state_in new ≡ state_in old
   pub stamps : stamps_in new ≡ stamps_in old
-  pub link : new.link ≡ old.link
   pub disk : disk_in new ≡ disk_in old
-  pub alive : is_alive new ≡ is_alive old
   pub stands : (scripts : List Declared) (m : machine.Client) → LaptopStands medium scripts old m
       → LaptopStands medium scripts new (change m)
 

@@ -19,13 +19,15 @@ pub record IsClientImage (image : List ℕ) (count : ℕ) (m : ClientState) : Ty
   pub stands : StandWith image count state
   pub kept : StateKept state m
 
+abbrev pub seat_disk : {D : Type 0} → Seated D → D
+seat_disk seated = disk_of seated.client
+
 -- In the midst of a record its one disk has the record already.
-abbrev pub seating : {D : Type 0} → Medium D → (place : ℕ) → Keeping (Seated D) ClientState D (List ℕ)
+abbrev pub seating : {D : Type 0} → Medium D → (place : ℕ) → Keeping (Seated D) ClientState D (List ℕ) seat_disk
 seating medium place = record {
   stands = IsSeated medium place;
   image = IsClientImage;
   turning = λ image count before after. IsClientImage image (next count) after;
-  disk = λ seated. disk_of seated.client;
 }
 
 -- what no disk keeps: of those that run and were begun since the start, the script and the class; and the stamps that a server gave

@@ -5,9 +5,10 @@ ghost use Rattle.iot_laptop.specs.{Alone.CertifiesAlone, Below.Declared, Below.H
 ghost use Rattle.iot_laptop.specs.Below.{IsSome, IsSubmitted, KeepsDisk, List, Nodes, OnOk, Plan, Some, acts_output, false, in_conflict};
 ghost use Rattle.iot_laptop.specs.Below.{length, live_numbered, may_end_if_any, most_running, nothing_held, numbered, true, []};
 ghost use Rattle.iot_laptop.specs.{Calls.acts_by, Calls.appended, Calls.certified_if, Calls.compared_if, Calls.done, Messages.BringsTree};
-ghost use Rattle.{iot_laptop.specs.Messages.IsVerdict, iot_laptop.specs.Messages.SpellsTree, iot_machine.specs.Clients.fetch};
-ghost use Rattle.{iot_machine.specs.Clients.hold, iot_machine.specs.Clients.leave, iot_tree.specs.Tree.IsWhole};
+ghost use Rattle.{iot_judging.specs.Errands.base_of, iot_laptop.specs.Messages.IsVerdict, iot_laptop.specs.Messages.SpellsTree};
+ghost use Rattle.{iot_machine.specs.Clients.leave, iot_tree.specs.Tree.IsWhole};
 
+use crate::errand::Errand;
 use crate::laptop::Laptop;
 use crate::needs::{Certified, Gone};
 use crate::texts::output_of;
@@ -22,67 +23,43 @@ use std::alloc::Global;
 use std::rc::Rc;
 
 impl<D: Disk> Laptop<D> {
-    ghost use Rattle.iot_laptop.specs.Calls.{Begins, Changes, EndsAlone, GoesOn, IsDoneIn, IsGoneIfAny, IsTold, NextIs, Plans, Repairs};
-    ghost use Rattle.iot_laptop.specs.Calls.{Resolves, TakesStamps, TakesStep, TakesVerdict, UnlessNoMemory, head_reads, waits_after};
-    ghost use Rattle.iot_laptop.specs.Laptops.{ClientStands, IsFirst, KeepsTrails};
+    ghost use Rattle.iot_laptop.specs.Calls.{Begins, Changes, EndsAlone, GoesOn, IsGoneIfAny, IsNoFetch, IsTold, Keeps, MayTake};
+    ghost use Rattle.iot_laptop.specs.Calls.{NextIs, Plans, Repairs, Resolves, TakesReply, TakesStep, TakesVerdict, errand_of};
+    ghost use Rattle.iot_laptop.specs.{Calls.head_reads, Calls.held_for, Laptops.ClientStands, Laptops.IsFirst, Laptops.KeepsTrails};
     ghost use Rattle.iot_laptop.specs.Laptops.{LaptopStands, SamePlace, Stands, disk_in, is_alive, live_in, stamps_in, state_in};
 
-    /// Holds what the reply brings. What runs goes on.
-    pub fn take(&mut self, alloc: Global, reply: &[u8], out: &mut Text) -> Result<(), Halt>
-        requires stands { Stands D.medium self.old }
-        requires none { (state_in self.old).items ≡ [] }
-        requires brings { BringsTree (stamps_in self.old) reply.now }
-        ensures does { (t : Nodes) → SpellsTree (stamps_in self.old) reply.now t
-            → Changes D.medium (hold t) self.old self.new out.old out.new result }
-        ensures running { OnOk result ((state_in self.new).running ≡ (state_in self.old).running) }
-        ensures stamps { TakesStamps (stamps_in self.old) reply.now self.old self.new result }
-        ensures place { SamePlace self.old self.new }
-        ensures disk { KeepsDisk D.medium (disk_in self.old) (disk_in self.new) }
-    {
-        let count = self.records();
-        let answer = self.client_mut().take_objects(alloc, reply);
-        self.goes_on(alloc, answer, count, out)
-    }
-
-    /// Holds what the reply to a walk brings, in place of all that it held. What runs goes on.
-    pub fn take_walk(&mut self, alloc: Global, reply: &[u8], out: &mut Text) -> Result<(), Halt>
-        requires stands { Stands D.medium self.old }
-        requires none { (state_in self.old).items ≡ [] }
-        requires brings { BringsTree nothing_held reply.now }
-        ensures does { (t : Nodes) → SpellsTree nothing_held reply.now t
-            → Changes D.medium (hold t) self.old self.new out.old out.new result }
-        ensures running { OnOk result ((state_in self.new).running ≡ (state_in self.old).running) }
-        ensures stamps { TakesStamps nothing_held reply.now self.old self.new result }
-        ensures place { SamePlace self.old self.new }
-        ensures disk { KeepsDisk D.medium (disk_in self.old) (disk_in self.new) }
-    {
-        let count = self.records();
-        let answer = self.client_mut().take_walk(alloc, reply);
-        self.goes_on(alloc, answer, count, out)
-    }
-
-    /// Holds what the reply brings for the transaction with this number, which begins anew.
+    /// Holds what the reply brings for it. What runs goes on, but for a transaction for which it was fetched, which begins anew.
     #[tactic(auto, using(crate::proofs::CallsLaws::none_bad, crate::proofs::FindingLaws::first_runs))]
-    pub fn fetched(
+    pub fn take(
         &mut self,
         alloc: Global,
-        number: u64,
+        errand: Errand<'_>,
         reply: &[u8],
         out: &mut Text,
     ) -> Result<(), Halt>
         requires stands { Stands D.medium self.old }
-        requires first { IsFirst number self.old }
+        requires may { MayTake errand self.old }
         requires none { (state_in self.old).items ≡ [] }
-        requires brings { BringsTree (stamps_in self.old) reply.now }
-        ensures does { (t : Nodes) → SpellsTree (stamps_in self.old) reply.now t
-            → Changes D.medium (fetch number t) self.old self.new out.old out.new result }
-        ensures stamps { TakesStamps (stamps_in self.old) reply.now self.old self.new result }
-        ensures place { SamePlace self.old self.new }
-        ensures disk { KeepsDisk D.medium (disk_in self.old) (disk_in self.new) }
+        requires brings { BringsTree (base_of (stamps_in self.old) (errand_of errand)) reply.now }
+        ensures takes { TakesReply D.medium (held_for errand.entry) (base_of (stamps_in self.old) (errand_of errand.entry)) reply.now
+            self.old self.new out.old out.new result }
+        ensures running { IsNoFetch errand.entry → OnOk result ((state_in self.new).running ≡ (state_in self.old).running) }
     {
         let count = self.records();
-        let answer = self.client_mut().fetched(alloc, number, reply);
-        self.goes_on(alloc, answer, count, out)
+        match errand {
+            Errand::Refresh(_) => {
+                let answer = self.client_mut().take_objects(alloc, reply);
+                self.goes_on(alloc, answer, count, out)
+            }
+            Errand::Fetch { number, .. } => {
+                let answer = self.client_mut().fetched(alloc, number, reply);
+                self.goes_on(alloc, answer, count, out)
+            }
+            Errand::Walk { .. } => {
+                let answer = self.client_mut().take_walk(alloc, reply);
+                self.goes_on(alloc, answer, count, out)
+            }
+        }
     }
 
     /// Begins its next transaction, which does this if it conflicts, first class or not, and gives its number.
@@ -101,9 +78,7 @@ impl<D: Disk> Laptop<D> {
         requires script { IsScript script.value }
         ensures does { Begins D.medium (record { name = name.now; code = script.value }) option first
             self.old self.new out.old out.new result }
-        ensures trails { UnlessNoMemory (done result) (KeepsTrails self.old self.new) }
-        ensures place { SamePlace self.old self.new }
-        ensures disk { KeepsDisk D.medium (disk_in self.old) (disk_in self.new) }
+        ensures keeps { Keeps D.medium self.old self.new result }
     {
         let count = self.records();
         let answer = self.client_mut().begin(alloc, name, script, option, first);
@@ -118,9 +93,7 @@ impl<D: Disk> Laptop<D> {
         requires runs { IsSome (numbered number (state_in self.old).running) }
         ensures next { NextIs D.medium number self.old result }
         ensures does { TakesStep D.medium number self.old self.new out.old out.new result }
-        ensures trails { UnlessNoMemory (done result) (KeepsTrails self.old self.new) }
-        ensures place { SamePlace self.old self.new }
-        ensures disk { KeepsDisk D.medium (disk_in self.old) (disk_in self.new) }
+        ensures keeps { Keeps D.medium self.old self.new (done result) }
     {
         let count = self.records();
         let answer = self.client_mut().step(alloc, number);
@@ -133,14 +106,10 @@ impl<D: Disk> Laptop<D> {
         requires stands { Stands D.medium self.old }
         requires over { may_end_if_any (numbered number (state_in self.old).running)
             (live_numbered number (state_in self.old).running (live_in self.old)) ≡ true }
-        ensures over { IsDoneIn D.medium number self.old }
         ensures does { (scripts : List Declared)
             → EndsAlone D.medium scripts (CertifiesAlone number) self.old self.new out.old out.new (compared_if result) }
         ensures gone { IfOk result (IsGoneIfAny D.medium number self.old) }
-        ensures waits { waits_after self.new result }
-        ensures trails { UnlessNoMemory (done result) (KeepsTrails self.old self.new) }
-        ensures place { SamePlace self.old self.new }
-        ensures disk { KeepsDisk D.medium (disk_in self.old) (disk_in self.new) }
+        ensures keeps { Keeps D.medium self.old self.new (compared_if result) }
     {
         let output = self.output(alloc, number)?;
         let name = self.name;
@@ -172,9 +141,7 @@ impl<D: Disk> Laptop<D> {
         requires told { IsVerdict (head_reads (state_in self.old).items) reply.now }
         ensures does { TakesVerdict D.medium reply.now self.old self.new out.old out.new (done result) }
         ensures told { IfOk result (IsTold reply.now self.old) }
-        ensures trails { UnlessNoMemory (done result) (KeepsTrails self.old self.new) }
-        ensures place { SamePlace self.old self.new }
-        ensures disk { KeepsDisk D.medium (disk_in self.old) (disk_in self.new) }
+        ensures keeps { Keeps D.medium self.old self.new (done result) }
     {
         let told = self.told(alloc, reply)?;
         let count = self.records();
@@ -202,9 +169,7 @@ impl<D: Disk> Laptop<D> {
         ensures does { (t : Nodes) → SpellsTree nothing_held reply.now t → (scripts : List Declared) (plan : Plan)
             → Plans D.medium scripts self.old plan
             → plan.script.code ≡ script.value → Resolves D.medium scripts plan t self.old self.new out.old out.new result }
-        ensures trails { UnlessNoMemory result (KeepsTrails self.old self.new) }
-        ensures place { SamePlace self.old self.new }
-        ensures disk { KeepsDisk D.medium (disk_in self.old) (disk_in self.new) }
+        ensures keeps { Keeps D.medium self.old self.new result }
     {
         let count = self.records();
         let answer = self.client_mut().resolve(alloc, reply, script);
@@ -216,9 +181,7 @@ impl<D: Disk> Laptop<D> {
         requires stands { Stands D.medium self.old }
         requires manual { HeadIs IsByHand (state_in self.old).items }
         ensures does { Repairs D.medium script.now self.old self.new out.old out.new result }
-        ensures trails { UnlessNoMemory result (KeepsTrails self.old self.new) }
-        ensures place { SamePlace self.old self.new }
-        ensures disk { KeepsDisk D.medium (disk_in self.old) (disk_in self.new) }
+        ensures keeps { Keeps D.medium self.old self.new result }
     {
         let count = self.records();
         let answer = self.client_mut().repair(alloc, script);
@@ -230,9 +193,7 @@ impl<D: Disk> Laptop<D> {
         requires stands { Stands D.medium self.old }
         requires manual { HeadIs IsByHand (state_in self.old).items }
         ensures does { Changes D.medium leave self.old self.new out.old out.new result }
-        ensures trails { UnlessNoMemory result (KeepsTrails self.old self.new) }
-        ensures place { SamePlace self.old self.new }
-        ensures disk { KeepsDisk D.medium (disk_in self.old) (disk_in self.new) }
+        ensures keeps { Keeps D.medium self.old self.new result }
     {
         let count = self.records();
         let answer = self.client_mut().discard(alloc);

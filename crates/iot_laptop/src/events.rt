@@ -15,7 +15,7 @@ use std::alloc::Global;
 
 impl<D: Disk> Laptop<D> {
     ghost use Rattle.iot_laptop.specs.Alone.{OpensClient};
-    ghost use Rattle.iot_laptop.specs.Calls.{Came, CutsAll, CutsFirst, Returned, RunFewer, UnlessNoMemory, done};
+    ghost use Rattle.iot_laptop.specs.Calls.{Came, CutsAll, CutsFirst, Keeps, Returned, RunFewer};
     ghost use Rattle.iot_laptop.specs.Laptops.{ClientStands, IsUnopened, KeepsTrails, SamePlace, StandsAnyhow, disk_in, is_alive, state_in};
     ghost use Rattle.iot_machine.specs.Events.{ArmsClient, Connects, CrashesClient, Disconnects, Loses, RestartsClient};
 
@@ -144,9 +144,7 @@ impl<D: Disk> Laptop<D> {
         ensures cuts { CutsFirst D.medium self.old self.new out.old out.new result }
         ensures returned { OnOk result (Returned D.medium self.new) }
         ensures fewer { IfOk result (λ told. RunFewer told (state_in self.old).running (state_in self.new).running) }
-        ensures trails { UnlessNoMemory (done result) (KeepsTrails self.old self.new) }
-        ensures place { SamePlace self.old self.new }
-        ensures disk { KeepsDisk D.medium (disk_in self.old) (disk_in self.new) }
+        ensures keeps { Keeps D.medium self.old self.new result }
     {
         let count = self.records();
         let answer = match &mut self.post {

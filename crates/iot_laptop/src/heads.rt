@@ -18,7 +18,7 @@ use std::alloc::Global;
 
 impl<D: Disk> Laptop<D> {
     ghost use Rattle.iot_laptop.specs.{Below.waits_of, Calls.IsHeadPlan, Calls.IsNeed, Calls.IsTold, Calls.decision};
-    ghost use Rattle.iot_laptop.specs.{Calls.decision_on, Calls.head_name, Calls.head_reads, Laptops.Stands, Laptops.state_in};
+    ghost use Rattle.iot_laptop.specs.{Calls.head_name, Calls.head_reads, Laptops.Stands, Laptops.state_in};
 
     /// The name of the first that waits.
     pub fn head(&self) -> Option<Transaction>
@@ -34,15 +34,9 @@ impl<D: Disk> Laptop<D> {
         requires { Stands D.medium self.now }
         ensures { result ≡ decision self.now (state_in self.now).items }
     {
-        match self.client().queue().head() {
-            Some(item) => self.decision_on(item),
-            None => Err(Undecided::Nothing),
-        }
-    }
-
-    fn decision_on(&self, item: &Item) -> Result<Transaction, Undecided>
-        ensures { result ≡ decision_on self.now item.now item.now.stage }
-    {
+        let Some(item) = self.client().queue().head() else {
+            return Err(Undecided::Nothing);
+        };
         match &item.stage {
             Stage::Manual => Ok(self.transaction(item.tid)),
             Stage::Waiting | Stage::Conflict | Stage::Resolved(_) => Err(Undecided::NotManual),

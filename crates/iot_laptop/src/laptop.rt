@@ -3,11 +3,12 @@ ghost use Rattle.std.specs.{Borrow.sem, Option.option_copied};
 ghost use Rattle.std.specs.Prelude.{map, nat_lt, not, ◌&&◌, ◌*◌, ◌≡◌, ◌≤◌};
 ghost use Rattle.iot_client.specs.{Calls.is_over_if_any, declared.fault.ClientFault.TheVariants.NoMemory as no_memory};
 ghost use Rattle.iot_kept.specs.Memory.{classes_of, transaction, transactions};
-ghost use Rattle.iot_laptop.specs.Below.{Declared, IfOk, IsEmpty, IsRefresh, List, None, Some};
+ghost use Rattle.iot_laptop.specs.Below.{Declared, IfOk, IsEmpty, List, None, Some};
 ghost use Rattle.iot_laptop.specs.Below.{has_any, length, live_numbered, may_end_if_any, most_running, numbered, option_map, true, []};
-ghost use Rattle.{iot_laptop.specs.Calls.meant_in, iot_node.specs.Disks.counts_on};
-ghost use Rattle.{iot_tree.specs.Profiles.IsProfile, iot_tree.specs.Profiles.IsWalkLimit, iot_wire.specs.Meanings.IsWalk};
+ghost use Rattle.{iot_judging.specs.Errands.IsErrand, iot_node.specs.Disks.counts_on};
+ghost use Rattle.iot_laptop.specs.Calls.{MayAsk, errand_of, meant_in};
 
+use crate::errand::Errand;
 use crate::seated::Seated;
 use iot_client::{Client, ClientFault, Running};
 use iot_disk::Disk;
@@ -15,7 +16,7 @@ use iot_kept::RUN_LIMIT;
 use iot_link::Link;
 use iot_node::{Fallen, Post, Transaction};
 use iot_text::{Name, NoMemory};
-use iot_tree::{ACT_LIMIT, Profile, Tree, Want};
+use iot_tree::{ACT_LIMIT, Tree, Want};
 use std::alloc::Global;
 
 /// A client, its name, its place in the order of declaration, and its link.
@@ -29,13 +30,13 @@ pub struct Laptop<D: Disk> {
 
 impl<D: Disk> Laptop<D> {
     ghost use Rattle.iot_laptop.specs.Below.{waits_of};
-    ghost use Rattle.iot_laptop.specs.Laptops.{FallenStands, IsLent, IsUnopened, IsView, LendsClient, Stands, StandsAnyhow};
+    ghost use Rattle.iot_laptop.specs.Laptops.{ClientStands, IsLent, IsUnopened, IsView, LendsClient, Stands, StandsAnyhow};
     ghost use Rattle.iot_laptop.specs.Laptops.{disk_in, is_alive, lent_by, live_in, records_in, stamps_in, state_in, unopened_laptop};
 
     /// The client of this name at this place, on an empty disk. It was never started.
     pub fn unopened(name: Name, place: u64, disk: D) -> Laptop<D>
         requires { IsEmpty D.medium disk }
-        ensures stands { (scripts : List Declared) → FallenStands D.medium scripts result
+        ensures stands { (scripts : List Declared) → ClientStands D.medium scripts result
             (unopened_laptop name (counts_on D.medium disk)) }
         ensures unopened { IsUnopened D.medium result }
         ensures place { result.place ≡ place }
@@ -232,33 +233,24 @@ impl<D: Disk> Laptop<D> {
         }
     }
 
-    /// Asks for what is wanted, in bytes.
-    pub fn ask(&self, alloc: Global, want: &Want) -> Result<Vec<u8>, NoMemory>
+    /// The request for it.
+    pub fn ask(&self, alloc: Global, errand: Errand<'_>) -> Result<Vec<u8>, NoMemory>
         requires stands { Stands D.medium self.now }
         requires place { self.now.place ≤ 7 }
         requires none { (state_in self.now).items ≡ [] }
-        ensures { IfOk result (λ request. IsRefresh self.now.place (stamps_in self.now) want.now request.items) }
+        requires may { MayAsk errand }
+        ensures { IfOk result (λ request. IsErrand self.now.place (stamps_in self.now) (errand_of errand.entry) request.items) }
     {
-        self.client().ask(alloc, want).map_err(memory)
-    }
-
-    /// Asks for what the profile wishes, as much as fits into the limit, in bytes.
-    pub fn ask_walk(
-        &self,
-        alloc: Global,
-        profile: &Profile,
-        limit: u64,
-    ) -> Result<Vec<u8>, NoMemory>
-        requires stands { Stands D.medium self.now }
-        requires place { self.now.place ≤ 7 }
-        requires none { (state_in self.now).items ≡ [] }
-        requires profile { IsProfile profile.now }
-        requires limit { IsWalkLimit limit }
-        ensures { IfOk result (λ request. IsWalk self.now.place profile.now limit request.items) }
-    {
-        self.client()
-            .ask_walk(alloc, profile, limit)
-            .map_err(memory)
+        let client = self.client();
+        match errand {
+            Errand::Refresh(want) => client.ask(alloc, want).map_err(memory),
+            Errand::Fetch { path, .. } => client
+                .ask(alloc, &Want::Path(path.copy(alloc)?))
+                .map_err(memory),
+            Errand::Walk { profile, limit } => client
+                .ask_walk(alloc, profile, limit)
+                .map_err(memory),
+        }
     }
 }
 

@@ -2,6 +2,7 @@
 #![tactic(auto)]
 
 mod calls;
+mod errand;
 mod events;
 mod heads;
 mod laptop;
@@ -11,6 +12,7 @@ mod seated;
 mod texts;
 mod verdict;
 
+pub use errand::Errand;
 pub use laptop::Laptop;
 pub use needs::{Certified, Gone, Need, Submitted, Undecided};
 pub use seated::Seated;

@@ -8,7 +8,7 @@ use iot_link::Passage;
 
 impl<D: Disk> Laptop<D> {
     ghost use Rattle.iot_laptop.specs.Below.{break};
-    ghost use Rattle.iot_laptop.specs.Laptops.{IsCutLink, Reclassed, Relinked, Stands, StandsAnyhow, after_passage, all_second, disk_in};
+    ghost use Rattle.iot_laptop.specs.Laptops.{IsCutLink, Reclassed, Stands, StandsAnyhow, after_passage, all_second};
 
     /// Whether its link is up.
     pub fn is_connected(&self) -> bool
@@ -34,9 +34,8 @@ impl<D: Disk> Laptop<D> {
     pub fn pass(&mut self, server_up: bool) -> Passage
         requires { Stands D.medium self.old }
         ensures passage { result ≡ passage self.old.link server_up }
-        ensures after { Relinked D.medium (after_passage result) self.old self.new }
+        ensures after { Reclassed D.medium (after_passage result) self.old self.new }
         ensures both { result ≡ Both → self.new ≡ self.old }
-        ensures disk { disk_in self.new ≡ disk_in self.old }
     {
         let passage = self.link.outcome(server_up);
         match passage {
@@ -50,8 +49,7 @@ impl<D: Disk> Laptop<D> {
     #[tactic(auto, using(crate::proofs::RestartLaws::stands_over))]
     pub fn broke(&mut self)
         requires { Stands D.medium self.old }
-        ensures after { Relinked D.medium break self.old self.new }
-        ensures disk { disk_in self.new ≡ disk_in self.old }
+        ensures { Reclassed D.medium break self.old self.new }
     {
         self.link.broke();
         self.second();

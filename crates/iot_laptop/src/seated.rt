@@ -12,13 +12,15 @@ pub struct Seated<D: Disk> {
 
 impl<D: Disk> Keeper<D> for Seated<D> {
     ghost use Rattle.iot_laptop.specs.Below.{ClientState, List, ℕ};
-    ghost use Rattle.iot_laptop.specs.Seats.{Besides, besides, none_besides, seating};
+    ghost use Rattle.iot_laptop.specs.Seats.{Besides, besides, none_besides, seat_disk, seating};
 
     ghost Kept = { ClientState };
 
     ghost Image = { List ℕ };
 
     ghost medium = { D.medium };
+
+    ghost disks = { seat_disk };
 
     ghost keeping = { seating D.medium };
 

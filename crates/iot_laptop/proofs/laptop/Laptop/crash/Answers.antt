@@ -7,9 +7,6 @@ returns-clause-step g c =
     crashes g.D.Disk.medium c.args.self.now c.crash.new.self c.args.out.now c.crash.new.out
     (rw c.as_bytes.ensures.value at (step c.args.self.now.place no_text)) off)
 
-pub returns-clause-disk : goal.returns-clause-disk
-returns-clause-disk g c = c.crash.ensures.disk c.args.self.now.place
-
 pub returns-clause-trails : goal.returns-clause-trails
 returns-clause-trails g c =
     IfOk-weaker c.crash.result _ _ (λ _ off. off_trails c.args.self.now (record c.args.self.now { post = c.crash.new.self }) off)

@@ -12,4 +12,4 @@ returns g c =
     let returned = returns_by call is.cuts is.stopped c.requires c.goes_on.result refl in
     let fewer = fewer_by call is.cuts is.stopped c.goes_on.result refl in
     let trails = cut_keeps call is.cuts is.stopped in
-    record { cuts = cuts; returned = returned; fewer = fewer; trails = trails; place = search rules; disk = search rules }
+    record { cuts = cuts; returned = returned; fewer = fewer; keeps = search rules }

@@ -6,5 +6,5 @@ returns g c =
     let is = c.discard-answer.ensures in
     let call = called c.client_mut.ensures.lent c.goes_on.ensures.goes c.records-count.ensures is.tied is.counts is.arms in
     let does = rw (as_is c.goes_on.result) at (leaves call is.notes is.live is.stopped) in
-    let trails = rw (as_is c.goes_on.result) at (noted_trails call _ is.notes (λ _. tt)) in
-    record { does = does; trails = trails; place = search rules; disk = search rules }
+    let trails = noted_trails call _ is.notes (λ _. tt) in
+    record { does = does; keeps = search rules }

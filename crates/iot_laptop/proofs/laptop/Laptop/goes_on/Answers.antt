@@ -15,6 +15,3 @@ returns-clause-goes g c = record {
   stopped = λ over. was_stopped c.args.answer (sym c.journaled.ensures ∙ c.take.ensures.stopped over);
   rest = refl;
 }
-
-pub returns-clause-disk : goal.returns-clause-disk
-returns-clause-disk g c = c.take.ensures.disk c.args.self.now.place

@@ -8,7 +8,7 @@ returns-in-Ok g c =
     let call = called c.client_mut.ensures.lent c.goes_on.ensures.goes c.records-count.ensures is.tied is.counts is.arms in
     let does = rw c.in-Ok.is at (takes_verdict call (λ noted. noted) c.args.reply.now is.only is.noted is.notes is.live is.stopped) in
     let trails = rw c.in-Ok.is at (noted_trails call _ is.notes verdict_own) in
-    record { does = does; told = search rules; trails = trails; place = search rules; disk = search rules }
+    record { does = does; told = search rules; keeps = search rules }
 
 pub returns-in-Err : goal.returns-in-Err
 returns-in-Err g c =
@@ -16,4 +16,4 @@ returns-in-Err g c =
     let call = called c.client_mut.ensures.lent c.goes_on.ensures.goes c.records-count.ensures is.tied is.counts is.arms in
     let does = rw c.in-Err.is at (takes_verdict call (λ noted. noted) c.args.reply.now is.only is.noted is.notes is.live is.stopped) in
     let trails = rw c.in-Err.is at (noted_trails call _ is.notes verdict_own) in
-    record { does = does; told = search rules; trails = trails; place = search rules; disk = search rules }
+    record { does = does; told = search rules; keeps = search rules }
