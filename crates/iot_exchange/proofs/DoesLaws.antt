@@ -2,20 +2,20 @@
 -- one of the machine, also if the client is down.
 use Rattle.std.proofs.Common.{inl, is_some, length-append, suc, ◌&&◌, ◌*◌, ◌≤◌}
 use Rattle.{std.specs.Prelude.IsSome, iot_disk.specs.Disk.Storing}
-use Rattle.iot_exchange.proofs.Common.{Answers, Asks, Bool, Both, Call, Client, ClientState}
-use Rattle.iot_exchange.proofs.Common.{Compared, Declared, Does, DoesFrom, EndsAlone, Err, Follows, Goes, Halt, IsAt, IsErrAnd, IsReadyWith}
-use Rattle.iot_exchange.proofs.Common.{Item, ItemsStand, KeepsDisk, KeepsDisks, KeepsTrails, Laptop, List, Medium, NoMemory, Nodes}
-use Rattle.iot_exchange.proofs.Common.{None, Notes, NotesAlone, Ok, OnConflict, Option, Over, Pair, PairStands, Repeats, Result, SamePlace}
-use Rattle.iot_exchange.proofs.Common.{ServerNode, ServerStands, Some, StepFrom, StepsTo, SyncsNext, Tells, Then, Try, UnlessNoMemory}
-use Rattle.iot_exchange.proofs.Common.{UpStands, Yields, after_acts, ap, append-nil, arith, codes, disk_in, done, false, has_any}
+use Rattle.iot_exchange.proofs.Common.{Answers, Asks, Bool}
+use Rattle.iot_exchange.proofs.Common.{Both, Call, Client, ClientState, Compared, Declared, Does, DoesFrom, EndsAlone, Err, Follows, Goes}
+use Rattle.iot_exchange.proofs.Common.{Halt, IsAt, IsErrAnd, IsReadyWith, Item, ItemsStand, Keeps, KeepsDisk, KeepsDisks, Laptop, List}
+use Rattle.iot_exchange.proofs.Common.{Medium, NoMemory, Nodes, None, Notes, NotesAlone, Ok, OnConflict, Option, Over, Pair, PairStands}
+use Rattle.iot_exchange.proofs.Common.{Repeats, Result, ServerNode, ServerStands, Some, StepFrom, StepsTo, SyncsNext, Tells, Then, Try}
+use Rattle.iot_exchange.proofs.Common.{UnlessNoMemory, UpStands, Yields, after_acts, ap, append-nil, arith, codes, disk_in, false, has_any}
 use Rattle.iot_exchange.proofs.Common.{joined, kept, length, line, not, pends, quiet, refl, runs_is, stamps_in, state_in, subst, sym, true}
 use Rattle.iot_exchange.proofs.Common.{two, unless_over, waits_is, waits_of, yield_if, yielding, ℕ, [], ◌++◌, ◌+◌, ◌-◌, ◌<◌, ◌∙◌, ◌∷◌, ◌≡◌}
 use Rattle.iot_exchange.proofs.StepsLaws.{answers_from, asks_from, behind, refuses_from, says_from, then_from}
 use Rattle.iot_exchange.specs.{Pairs.AnyStands, Pairs.IsStandingWith, Pairs.KeepsServed, Words.SyncsAll}
 use Rattle.iot_judging.proofs.FollowingLaws.{follows_kept}
-use Rattle.iot_laptop.{proofs.NodesLaws.awake_stands, proofs.NodesLaws.is_awake, proofs.NodesLaws.is_down, specs.Alone.CertifiesAlone}
-use Rattle.iot_laptop.specs.Alone.{ComparesAlone, StartsAlone, YieldsAlone, YieldsAndNotes, certify_alone, change_by, set_class, yields_by}
-use Rattle.iot_laptop.specs.Laptops.{ClientStands, StandsAnyhow, awake, fallen, is_alive}
+use Rattle.iot_laptop.proofs.NodesLaws.{awake, awake_stands, node_is}
+use Rattle.iot_laptop.specs.Alone.{CertifiesAlone, ComparesAlone, StartsAlone, YieldsAlone, YieldsAndNotes, certify_alone, change_by}
+use Rattle.iot_laptop.specs.{Alone.set_class, Alone.yields_by, Laptops.SamePlace, Laptops.StandsAnyhow, Laptops.is_alive}
 use Rattle.iot_machine.{proofs.StepsLaws.at_each, specs.Calls.Gets, specs.Calls.OrSays, specs.Calls.Whole, specs.Calls.either}
 use Rattle.iot_machine.specs.{Calls.or_text, Clients.begin, Events.IfUp, Events.is_drained, Transactions.Compares, Transactions.Starts}
 use Rattle.{iot_machine.specs.Transactions.unless_stopped, iot_server_node.proofs.BeginningLaws.records_same}
@@ -287,12 +287,8 @@ starts script option first = lift_then (lift_gets (λ client. client.node.durabl
 
 -- ---- one that yields
 
-pub yields_name : (number : ℕ) (pends : Bool) (m : Client) → (yields_by number pends m).name ≡ m.name
-yields_name number true m = refl
-yields_name number false m = refl
-
 yields_by_pair : (number : ℕ) (pends : Bool) (pair : Pair)
-    → record pair { client = yields_by number pends pair.client } ≡ yield_if number pends pair
+    → record pair { client = record pair.client { first = yields_by number pends pair.client.first } } ≡ yield_if number pends pair
 yields_by_pair number true pair = refl
 yields_by_pair number false pair = refl
 
@@ -301,8 +297,7 @@ yields_pair number pair = yields_by_pair number (pends pair) pair
 
 pub yields : (number : ℕ) → Lifts (YieldsAlone number) (Yields number)
 yields number = record {
-  lift = λ pair text a n it.
-      ((it.0, (λ i. record pair { client = it.1 i }) ∙ yields_pair number pair), (λ i. (it.1 i).name) ∙ yields_name number _ pair.client);
+  lift = λ pair text a n it. ((it.0, (λ i. record pair { client = it.1 i }) ∙ yields_pair number pair), (λ i. (it.1 i).name));
 }
 
 pub yields_then : (number : ℕ) (change : ClientState → ClientState)
@@ -343,22 +338,12 @@ certifies_one number = lift_then (lift_gets (λ client. clients.numbered number 
 
 -- ---- one call of the client
 
--- what is so of a call unless memory ran out
-abbrev pub Unless : {A : Type 0} → Result A Halt → Type 0 → Type 0
-Unless (Ok a) P = P
-Unless (Err NoMemory) P = Unit {0}
-Unless (Err Over) P = P
-
-pub unless_done : {A : Type 0} (P : Type 0) (result : Result A Halt) → UnlessNoMemory (done result) P → Unless result P
-unless_done P (Ok a) so = so
-unless_done P (Err halt) so = so
-
 module _ {D : Type 0} {medium : Medium D} where
   module _ {A : Type 0} {scripts : List Declared} {one : Try Client A} {call : Try Pair A} {u v : Both D} {new : Laptop D} {x y : List ℕ}
     where
       -- what it holds then still follows the server's list
       pub by_call : {result : Result A Halt} → Lifts one call → KeepsDisks medium u v → SamePlace v.laptop new
-          → Unless result (OfEach medium scripts v (λ pair. Follows (stamps_in new) pair.server.durable))
+          → UnlessNoMemory result (OfEach medium scripts v (λ pair. Follows (stamps_in new) pair.server.durable))
           → EndsAlone medium scripts one v.laptop new x y result → KeepsDisk medium (disk_in v.laptop) (disk_in new)
           → Does medium scripts call v (two new v.server) x y result
       by_call {result = Err NoMemory} lifts keeps place follows it more =
@@ -379,12 +364,11 @@ module _ {D : Type 0} {medium : Medium D} where
       }
 
       -- one that does not ask the server
-      pub by_client : {result : Result A Halt} → Lifts one call → KeepsDisks medium u v → SamePlace v.laptop new
-          → Unless result (KeepsTrails v.laptop new) → EndsAlone medium scripts one v.laptop new x y result
-          → KeepsDisk medium (disk_in v.laptop) (disk_in new) → Does medium scripts call v (two new v.server) x y result
-      by_client {result = Err NoMemory} lifts keeps place trails it more = by_call lifts keeps place tt it more
-      by_client lifts keeps place trails it more =
-          by_call lifts keeps place (λ names c pair here. follows_kept _ _ pair.server.durable trails here.follows) it more
+      pub by_client : {result : Result A Halt} → Lifts one call → KeepsDisks medium u v → Keeps medium v.laptop new result
+          → EndsAlone medium scripts one v.laptop new x y result → Does medium scripts call v (two new v.server) x y result
+      by_client {result = Err NoMemory} lifts keeps own it = by_call lifts keeps own.place tt it own.disk
+      by_client lifts keeps own it =
+          by_call lifts keeps own.place (λ names c pair here. follows_kept _ _ pair.server.durable own.trails here.follows) it own.disk
 
 -- ---- again and again
 
@@ -447,7 +431,7 @@ module _ {D : Type 0} {medium : Medium D} {scripts : List Declared} {u : Both D}
       && u.laptop.link.up) ≡ b → OfEach medium scripts u (λ pair. b ≡ is_drained pair)
   drained_is is names c pair here =
       let it = here.client.is in
-      sym is ∙ (λ i. is_awake medium scripts u.laptop pair.client it i && not (waits_is _ _ _ _ it.state i)
+      sym is ∙ (λ i. (sym (node_is medium u.laptop pair.client it.node) ∙ it.alive) i && not (waits_is _ _ _ _ it.state i)
       && not (runs_is _ _ _ _ it.state i) && (it.link i).up)
 
 -- ---- all of them
@@ -463,11 +447,6 @@ pub all_by : {D : Type 0} {medium : Medium D} {scripts : List Declared} {u w : B
 all_by is it = asks_then (λ names c pair here. items_long _ _ _ here.client.is.state.items) (rw is at it)
 
 -- ---- a task, of a client that is alive or down
-
-alive_is : {D : Type 0} {medium : Medium D} {scripts : List Declared} {laptop : Laptop D} {m : Client}
-    → ClientStands medium scripts laptop m → is_alive laptop ≡ m.node.alive
-alive_is {medium = medium} {scripts} {laptop} {m} (awake here) = is_awake medium scripts laptop m here ∙ sym here.alive
-alive_is {medium = medium} {scripts} {laptop} {m} (fallen here) = is_down medium scripts laptop m here ∙ sym here.alive
 
 wholly : {W : Type 0} {P Q : W → Pair → Type 0} {call : Try Pair (Unit {0})} {o : Option (Unit {0})} {pair : Pair} {v : W} {x y : List ℕ}
     → ((n : Pair) → P v n → Q v n) → StepFrom P call pair v x y o → StepFrom Q (Whole call) pair v x y tt
@@ -491,13 +470,14 @@ module _ {D : Type 0} {medium : Medium D} {scripts : List Declared} {u : Both D}
     -- it says that it is down
     pub says_down : is_alive u.laptop ≡ false → y ≡ x ++ line (codes "down") → IsTask medium scripts names c call u u x y
     says_down down wrote =
-        calls.bind {a = false} (calls.asks (λ pair here. sym down ∙ alive_is here.client.is)) (calls.says (λ pair here. wrote))
+        calls.bind {a = false} (calls.asks (λ pair here. sym (node_is medium u.laptop pair.client here.client.is.node ∙ down)))
+        (calls.says (λ pair here. wrote))
 
     module _ {v : Both D} {inner : Result (Unit {0}) Halt} (alive : is_alive u.laptop ≡ true)
         (it : Does medium scripts call u v x y inner) where
       if_up : ((pair : Pair) → UpStands medium scripts names c u pair
           → StepFrom (AnyStands medium scripts names c) (Whole call) pair v x y tt) → IsTask medium scripts names c call u v x y
-      if_up each = calls.bind {a = true} (calls.asks (λ pair here. sym alive ∙ alive_is here.client.is))
+      if_up each = calls.bind {a = true} (calls.asks (λ pair here. sym (node_is medium u.laptop pair.client here.client.is.node ∙ alive)))
           (at_each (λ pair here. each pair (up_there alive here)))
 
       pub all_done : inner ≡ Ok tt → IsTask medium scripts names c call u v x y

@@ -1,18 +1,18 @@
 -- An exchange of a client with the server; what a client asks for, and holds if it comes; and what it knows of its transactions.
-use Rattle.std.specs.{Prelude.nat_lt, Prelude.not, declared.alloc.Global.Global}
-use Rattle.iot_exchange.proofs.Common.{Asked, AsksAll, AsksFor, Bool, Both, Call, Came, Changes, Client, ClientState}
-use Rattle.iot_exchange.proofs.Common.{Commit, Declared, Does, Err, Errand, Follows, Grows, Halt, IsAt, IsOneMessage, IsReply, IsTree}
-use Rattle.iot_exchange.proofs.Common.{Item, Judgment, KeepsDisk, KeepsDisks, Laptop, LaptopStands, List, Medium, Message, NoMemory, Node}
-use Rattle.iot_exchange.proofs.Common.{Nodes, None, Notes, Objects, Ok, Option, Over, Pair, PairStands, Query, Refresh, Result, SamePlace}
-use Rattle.iot_exchange.proofs.Common.{ServerNode, ServerStands, Some, SpellsCut, SpellsTree, SpellsVerdict, Stamps, StepsTo, UpStands, Vec}
-use Rattle.iot_exchange.proofs.Common.{ap, arith, base_of, brought, call_one, disk_in, false, has_any, is_up, length, new_client, nodes_of}
+use Rattle.{std.specs.Prelude.nat_lt, std.specs.Prelude.not, std.specs.declared.alloc.Global.Global, iot_exchange.proofs.Common.Asked}
+use Rattle.iot_exchange.proofs.Common.{AsksAll, AsksFor, Bool, Both, Call, Came, Changes, Client, ClientState, Commit, Declared, Does}
+use Rattle.iot_exchange.proofs.Common.{Err, Errand, Follows, Grows, Halt, IsAt, IsOneMessage, IsReply, IsTree, Item, Judgment, KeepsDisks}
+use Rattle.iot_exchange.proofs.Common.{Laptop, LaptopStands, List, Medium, Message, NoMemory, Node, Nodes, None, Notes, Objects, Ok}
+use Rattle.iot_exchange.proofs.Common.{Option, Over, Pair, PairStands, Query, Reclassed, Refresh, Result, ServerNode, ServerStands, Some}
+use Rattle.iot_exchange.proofs.Common.{SpellsCut, SpellsTree, SpellsVerdict, Stamps, StepsTo, UnlessNoMemory, UpStands, Vec, ap, arith}
+use Rattle.iot_exchange.proofs.Common.{base_of, brought, call_one, false, has_any, held_for, hold, is_up, length, new_client, nodes_of}
 use Rattle.iot_exchange.proofs.Common.{nothing_held, pends, refl, reply_laws, reply_spelling, request_of, runs_is, stamps_in, stamps_of}
 use Rattle.iot_exchange.proofs.Common.{state_in, state_of, subst, sym, two, waits_is, waits_of, ℕ, [], ◌++◌, ◌<◌, ◌^◌, ◌∙◌, ◌∷◌, ◌≡◌}
-use Rattle.iot_exchange.proofs.DoesLaws.{OfEach, StepsOn, Unless, answers, by_call, in_place, notes, then_does}
+use Rattle.iot_exchange.proofs.DoesLaws.{OfEach, StepsOn, answers, by_call, in_place, notes, then_does}
 use Rattle.iot_exchange.proofs.FollowingLaws.{follows_brought, follows_nothing, held_is, makes_cut, nodes_none, nothing_tree, up_stamps}
 use Rattle.iot_exchange.specs.Pairs.{Exchanges, IfReplied, Serves, Spells, answered}
-use Rattle.{iot_exchange.specs.Words.IsErrand, iot_judging.proofs.FollowingLaws.follows_on}
-use Rattle.iot_laptop.specs.{Calls.Changes as ChangesAlone, Calls.TakesStamps, Laptops.Relinked, Laptops.after_passage, Messages.BringsTree}
+use Rattle.{iot_exchange.specs.Words.IsErrand, iot_judging.proofs.FollowingLaws.follows_on, iot_laptop.specs.Calls.IsNoFetch}
+use Rattle.iot_laptop.specs.{Calls.MayTake, Calls.TakesReply, Calls.TakesStamps, Laptops.after_passage, Messages.BringsTree}
 use Rattle.iot_link.specs.{Links.passage, declared.passages.Passage.Passage}
 use Rattle.iot_link.specs.declared.passages.Passage.TheVariants.{Away, Both as Reaches, ReplyLost, RequestLost}
 use Rattle.iot_machine.proofs.{StepsLaws.asks, StepsLaws.bind, StepsLaws.gets, WholeLaws.whole_comes}
@@ -23,6 +23,8 @@ use Rattle.iot_server_node.{proofs.ServersLaws.up_is, specs.Messages.said_of, sp
 use Rattle.iot_server_node.specs.{Servers.IsHanded, Servers.IsNamedIn, Servers.ServesBy, declared.server.Served.Served}
 use Rattle.{iot_stamp.proofs.CutsLaws.nothing_sent, iot_standing.proofs.StatesLaws.many_is, iot_tree.specs.Tree.IsWhole}
 use Rattle.iot_tree.specs.declared.want.Want.TheVariants as wanted
+use Rattle.iot_laptop.specs.declared.errand.Errand as code
+use Rattle.iot_laptop.specs.declared.errand.Errand.TheVariants as errands
 
 -- ---- what the server does
 
@@ -103,7 +105,7 @@ module _ {D A : Type 0} {medium : Medium D} {scripts : List Declared} {names : L
 -- ---- an exchange that gets so far
 
 module _ {D : Type 0} {medium : Medium D} {old new : Laptop D} (server : ServerNode D) {server_up : Bool} {p : Passage}
-    (up : server_up ≡ is_up server) (is : p ≡ passage old.link server_up) (after : Relinked medium (after_passage p) old new) where
+    (up : server_up ≡ is_up server) (is : p ≡ passage old.link server_up) (after : Reclassed medium (after_passage p) old new) where
   pub got : {q : Passage} → p ≡ q → q ≡ passage old.link (is_up server)
   got how = sym how ∙ is ∙ ap (passage old.link) up
 
@@ -112,7 +114,7 @@ module _ {D : Type 0} {medium : Medium D} {old new : Laptop D} (server : ServerN
     linked : {q : Passage} {later : ServerNode D} {pair : Pair} → p ≡ q → UpStands medium scripts names c (two old later) pair
         → UpStands medium scripts names c (two new later) (record pair { client = after_passage q pair.client })
     linked {q} {pair = pair} how here =
-        let it : Relinked medium (after_passage q) old new = rw how at after in
+        let it : Reclassed medium (after_passage q) old new = rw how at after in
         in_place here (it.stands scripts pair.client here.client.is) it.place (same_name q pair.client) (rw it.stamps here.follows)
 
     module _ {A : Type 0} {request : Call (Node (List Commit)) (Option A)} where
@@ -155,7 +157,7 @@ module _ {D : Type 0} {medium : Medium D} {old new : Laptop D} (server : ServerN
 
         -- none comes, since the server stopped
         pub none_comes : {last : Laptop D} → p ≡ Reaches
-            → Serves (ServerStands medium names) Spelled request None server later x y → Relinked medium break new last
+            → Serves (ServerStands medium names) Spelled request None server later x y → Reclassed medium break new last
             → Exchanges (UpStands medium scripts names c) Spelled (Exchange request) None (two old server) (two last later) x y
         none_comes how served broke = record {
           is = exchanged how (bind (handles grows None served).is (gets (λ pair here.
@@ -186,6 +188,12 @@ module _ {D : Type 0} {medium : Medium D} {scripts : List Declared} {u : Both D}
   pends_here is names c pair here = sym is ∙ waits_is _ _ _ _ here.client.is.state
 
 -- ---- what is held
+
+-- what is asked for by itself is held, and what runs goes on
+pub asked_holds : {D : Type 0} (laptop : Laptop D) (errand : code.Errand) → IsNoFetch errand
+    → MayTake errand laptop × (held_for errand ≡ hold)
+asked_holds laptop (errands.Fetch number path) none = absurd none
+asked_holds laptop errand none = (tt, refl)
 
 brings : {D : Type 0} {medium : Medium D} {scripts : List Declared} {u v : Both D} {x y : List ℕ} (errand : Errand) {names : List (List ℕ)}
     {c : ℕ} {o : Option Nodes} → StepsOn medium scripts names c (Exchange (Lends (state_in u.laptop).held errand)) u v x y o
@@ -292,20 +300,17 @@ module _ {D : Type 0} {medium : Medium D} {message : Message} {reply : Vec ℕ G
     -- .. which is held
     pub holds_own : {scripts : List Declared} {new : Laptop D} {z : List ℕ} {inner : Result (Unit {0}) Halt} {outer : Result Bool Halt}
         (change : Nodes → ClientState → ClientState) → KeepsDisks medium u v
-        → ((t : Nodes) → SpellsTree (base_of (stamps_in v.laptop) errand) reply.items t
-        → ChangesAlone medium (change t) v.laptop new y z inner)
-        → SamePlace v.laptop new → TakesStamps (base_of (stamps_in v.laptop) errand) reply.items v.laptop new inner
-        → KeepsDisk medium (disk_in v.laptop) (disk_in new)
+        → TakesReply medium change (base_of (stamps_in v.laptop) errand) reply.items v.laptop new y z inner
         → ((t : Nodes) → Does medium scripts (Notes (change t)) v (two new v.server) y z inner
         → Does medium scripts (holds change (Some t)) v (two new v.server) y z outer)
         → Does medium scripts (Holds change errand) u (two new v.server) x z outer
-    holds_own {scripts} {new} {inner = inner} change keeps does place takes more after =
+    holds_own {scripts} {new} {inner = inner} change keeps took after =
         then_does {next = holds change} (λ names c. brings errand (lent_own.steps scripts names c)) keeps
-        (after lent_own.tree (by_call (notes (change lent_own.tree)) keeps place (followed inner takes)
-        (does lent_own.tree lent_own.spells scripts) more))
+        (after lent_own.tree (by_call (notes (change lent_own.tree)) keeps took.place (followed inner took.stamps)
+        (took.does lent_own.tree lent_own.spells scripts) took.disk))
       where
         followed : (inner : Result (Unit {0}) Halt) → TakesStamps (base_of (stamps_in v.laptop) errand) reply.items v.laptop new inner
-            → Unless inner (OfEach medium scripts v (λ pair. Follows (stamps_in new) pair.server.durable))
+            → UnlessNoMemory inner (OfEach medium scripts v (λ pair. Follows (stamps_in new) pair.server.durable))
         followed (Ok done) takes =
             λ names c pair here. rw (takes _ lent_own.spells.spelled) (lent_own.follows scripts names c pair here)
         followed (Err NoMemory) takes = tt

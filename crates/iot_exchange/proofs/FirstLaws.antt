@@ -4,18 +4,18 @@
 use Rattle.std.proofs.{Common.Global, Common.if◌then◌else◌, lemmas.List.nil_from_length, lemmas.Option.slice_get_within}
 use Rattle.std.specs.{FinMap.empty, FinMap.entries, FinMap.len-empty, FinMap.len-entries, List.AllByRecursion}
 use Rattle.{iot_access.specs.Access.access_of, iot_acts.specs.Turns.reads_of, iot_client.specs.Messages.way_of}
-use Rattle.iot_exchange.proofs.Common.{ACT_LIMIT, Asked, AsksAll, AsksFor, Both, Came, Client, Code, Declared, Does, DoesFrom, EndsAlone}
-use Rattle.iot_exchange.proofs.Common.{Err, Halt, HasNamed, IsCodeOf, IsErrAnd, IsReadyWith, IsSome, Item, ItemsStand, Judgment, KeepsDisk}
-use Rattle.iot_exchange.proofs.Common.{KeepsDisks, KeepsTrails, Laptop, LaptopStands, List, Medium, Message, Nodes, None, Notes, NotesAlone}
-use Rattle.iot_exchange.proofs.Common.{Objects, Ok, OnConflict, Over, Pair, Refresh, Result, SamePlace, ServerNode, Some, SpellsTree}
-use Rattle.iot_exchange.proofs.Common.{SpellsVerdict, Stage, Transaction, Try, UnlessNoMemory, UpStands, Vec, after_acts, ap, codes}
-use Rattle.iot_exchange.proofs.Common.{disk_in, false, kept, length, line, name_of, new_client, nothing_held, option_named, refl, same_Some}
-use Rattle.iot_exchange.proofs.Common.{script_named, slice_get, slice_get-get_or, slice_index_or, stamps_of, state_in, subst, sym}
-use Rattle.iot_exchange.proofs.Common.{synced_by, told_synced, told_text, transaction_name, true, two, waits_of, ℕ, [], ◌++◌, ◌<◌, ◌∙◌, ◌∷◌}
-use Rattle.iot_exchange.proofs.{Common.◌≡◌, DoesLaws.by_client, DoesLaws.each_from, DoesLaws.keeps_more, DoesLaws.notes, DoesLaws.still}
+use Rattle.iot_exchange.proofs.Common.{ACT_LIMIT, Asked, AsksAll, AsksFor, Both, Came, Client, Code}
+use Rattle.iot_exchange.proofs.Common.{Declared, Does, DoesFrom, EndsAlone, Err, Halt, HasNamed, IsCodeOf, IsErrAnd, IsReadyWith, IsSome}
+use Rattle.iot_exchange.proofs.Common.{Item, ItemsStand, Judgment, Keeps, KeepsDisks, Laptop, LaptopStands, List, Medium, Message, Nodes}
+use Rattle.iot_exchange.proofs.Common.{None, Notes, NotesAlone, Objects, Ok, OnConflict, Over, Pair, Refresh, Result, ServerNode, Some}
+use Rattle.iot_exchange.proofs.Common.{SpellsTree, SpellsVerdict, Stage, Transaction, Try, UpStands, Vec, after_acts, ap, codes, false}
+use Rattle.iot_exchange.proofs.Common.{kept, length, line, name_of, new_client, nothing_held, option_named, refl, same_Some, script_named}
+use Rattle.iot_exchange.proofs.Common.{slice_get, slice_get-get_or, slice_index_or, stamps_of, state_in, subst, sym, synced_by}
+use Rattle.iot_exchange.proofs.Common.{told_synced, told_text, transaction_name, true, two, waits_of, ℕ, [], ◌++◌, ◌<◌, ◌∙◌, ◌∷◌, ◌≡◌}
+use Rattle.iot_exchange.proofs.DoesLaws.{by_client, each_from, keeps_more, notes, still}
 use Rattle.iot_exchange.proofs.{ExchangeLaws.asks_whole, ExchangeLaws.lent_whole, ExchangeLaws.whole_errand, FollowingLaws.nodes_none}
 use Rattle.iot_exchange.proofs.StepsLaws.{asks_from, refuses_from, says_from, then_from}
-use Rattle.iot_exchange.specs.{Pairs.MissesAll, Queues.First, Saying.resolver_said, Words.Verdict, declared.synced.Synced.Synced as Sync}
+use Rattle.iot_exchange.specs.{Pairs.MissesAll, Queues.First, Saying.resolver_said, Words.Verdict, declared.queues.Synced.Synced as Sync}
 use Rattle.iot_exec.specs.Files.{files_of}
 use Rattle.iot_kept.specs.Changes.{HeadIs, IsByHand, IsSubmittedIn}
 use Rattle.iot_laptop.specs.Calls.{Changes, HandsIn, IsHeadPlan, Plans, access_in, acts_in, decision, decision_on, head_name, head_reads}
@@ -75,10 +75,6 @@ module _ {D : Type 0} {laptop : Laptop D} {Is : Item → Type 0} {t : Transactio
 
   pub first_of : head_name laptop (state_in laptop).items ≡ Some t → HeadIs Is (state_in laptop).items → First Is laptop t
   first_of named is = first_by (state_in laptop).items refl named is
-
-  -- what is so of it is so of the head
-  pub head_is : (P : Item → Type 0) (first : First Is laptop t) → P first.item → HeadIs P (state_in laptop).items
-  head_is P first it = subst (HeadIs P) (sym first.items) it
 
 module _ {D : Type 0} (laptop : Laptop D) where
   pub none_waits : (items : List Item) → head_name laptop items ≡ None → items ≡ []
@@ -400,16 +396,15 @@ module _ {D : Type 0} {laptop : Laptop D} {t : Transaction} (it : Submitted) (fi
 
     -- what the reply says of it becomes of it
     pub submits_told : {scripts : List Declared} {new : Laptop D} {z w : List ℕ} {inner : Result
-        (Unit {0}) Halt} {result : Result Synced Halt} → KeepsDisks medium (two laptop server) mid
+        (Unit {0}) Halt} {result : Result Synced Halt} → KeepsDisks medium (two laptop server) mid → Keeps medium mid.laptop new inner
         → ((verdict : Verdict) (option : labels.OnConflict) → SpellsVerdict (head_reads (state_in laptop).items) reply.items verdict
         → head_option (state_in laptop).items ≡ Some option → Changes medium (told_change verdict option) mid.laptop new y z inner)
-        → SamePlace mid.laptop new → UnlessNoMemory inner (KeepsTrails mid.laptop new) → KeepsDisk medium (disk_in mid.laptop) (disk_in new)
         → ((verdict : Verdict) (option : labels.OnConflict) → SpellsVerdict (head_reads (state_in laptop).items) reply.items verdict
         → head_option (state_in laptop).items ≡ Some option
         → Does medium scripts (Notes (told_change verdict option)) mid (two new mid.server) y z inner → Does medium scripts
         (NotesAloud (told_change verdict option) (told_text (name_of t) verdict option) (told_synced verdict option))
         mid (two new mid.server) y w result) → Does medium scripts Syncs (two laptop server) (two new mid.server) x w result
-    submits_told {scripts} keeps does place trails more after = each_from (keeps_more keeps more) (λ names c pair here.
+    submits_told {scripts} keeps own does after = each_from (keeps_more keeps own.disk) (λ names c pair here.
         let m = mi here first in
         let e = (came.asked.is scripts names c (Judgment (submission_of m pair)) (asks_judgment here first first.is)).is in
         let spells = says_it here first first.is reply.items e.0 e.1 in
@@ -417,8 +412,8 @@ module _ {D : Type 0} {laptop : Laptop D} {t : Transaction} (it : Submitted) (fi
         ap head_option first.items ∙ ap (λ (l : labels.OnConflict). Some l) (head here first).stands.option in
         submits_from here first first.is.submitted (then_from e.2 here
         ((told_by e.0 m.option (name_there here first here) (after e.0 (option_named m.option) spells has
-        (by_client (notes (told_change e.0 (option_named m.option))) keeps place trails
-        (does e.0 (option_named m.option) spells has scripts) more))).step names c)))
+        (by_client (notes (told_change e.0 (option_named m.option))) keeps own
+        (does e.0 (option_named m.option) spells has scripts)))).step names c)))
 
 -- ---- plans
 
@@ -507,23 +502,21 @@ module _ {D : Type 0} {laptop : Laptop D} {t : Transaction} (request : Vec ℕ G
     pub resolves_told : {medium : Medium D} {scripts : List Declared} {mid : Both D} {new : Laptop D} {x y z w : List ℕ}
         {reply : Vec ℕ Global} {code : Code} {inner : Result (Unit {0}) Halt} {result : Result Synced Halt}
         → IsCodeOf plan.script scripts code → Came medium (asking request) reply (two laptop server) mid x y
-        → KeepsDisks medium (two laptop server) mid
+        → KeepsDisks medium (two laptop server) mid → Keeps medium mid.laptop new inner
         → ((t : Nodes) → SpellsTree nothing_held reply.items t → (scripts : List Declared) (p : Plan) → Plans medium scripts mid.laptop p
         → p.script.code ≡ code
         → EndsAlone medium scripts (NotesAlone (reach (clients.Resolved (resolution_of p t)))) mid.laptop new y z inner)
-        → SamePlace mid.laptop new → UnlessNoMemory inner (KeepsTrails mid.laptop new) → KeepsDisk medium (disk_in mid.laptop) (disk_in new)
         → ((p : Plan) (u : Nodes)
         → Does medium scripts (Notes (reach (clients.Resolved (resolution_of p u)))) mid (two new mid.server) y z inner
         → Does medium scripts
         (NotesAloud (reach (clients.Resolved (resolution_of p u))) (resolve_line (name_of t) (resolver_said plan)) Moved)
         mid (two new mid.server) y w result) → Does medium scripts Syncs (two laptop server) (two new mid.server) x w result
-    resolves_told {medium} {scripts} coded came keeps does place trails more after =
-        each_from (keeps_more keeps more) (λ names c pair here.
+    resolves_told {medium} {scripts} coded came keeps own does after = each_from (keeps_more keeps own.disk) (λ names c pair here.
         let plans = plans_it {medium = medium} {scripts = scripts} first (plan_is first is) coded.is in
         let p : Plan = plan_as (after_acts (state_in laptop).held first.item.acts) plan coded.script in
         let whole = lent_whole came (asks_whole first.is) in
         resolves_from here first first.is.conflict
         (sym (ap (head_plan (kept pair).held) (head here first).split) ∙ plans pair.client here.client.is)
         (then_from (whole.steps scripts names c) here
-        ((after p whole.tree (by_client (notes (reach (clients.Resolved (resolution_of p whole.tree)))) keeps place trails
-        (does whole.tree whole.spells scripts p (rw came.same plans) coded.has) more)).step names c)))
+        ((after p whole.tree (by_client (notes (reach (clients.Resolved (resolution_of p whole.tree)))) keeps own
+        (does whole.tree whole.spells scripts p (rw came.same plans) coded.has))).step names c)))

@@ -67,16 +67,12 @@ module _ (held : Stamps) (commits : List Commit) (server : Stamps) (errand : Err
   })
   cuts (Walk profile limit) = walk_cut server (has (picked (nodes_of server) profile limit)) cut.tree cut.whole positive
 
-  base_tree : (errand : Errand) → IsTree (nodes_of (base_of held errand))
-  base_tree (Refresh want) = tree
-  base_tree (Walk profile limit) = nothing_tree
-
-  base_far : (errand : Errand) → FarZero (base_of held errand)
-  base_far (Refresh want) = follows.far
-  base_far (Walk profile limit) = (follows_nothing commits).far
+  base : (errand : Errand) → IsTree (nodes_of (base_of held errand)) × FarZero (base_of held errand)
+  base (Refresh want) = (tree, follows.far)
+  base (Walk profile limit) = (nothing_tree, (follows_nothing commits).far)
 
   merges : brought (base_of held errand) (changes_to server held errand) ≡ pruned server (paths_for server held errand)
-  merges = merged_is (base_of held errand) server (paths_for server held errand) _ _ (base_tree errand) (base_far errand) (cuts errand)
+  merges = merged_is (base_of held errand) server (paths_for server held errand) _ _ (base errand).0 (base errand).1 (cuts errand)
 
   -- merged into its base it makes the server's tree, cut down to the paths of the errand
   pub makes_cut : SpellsTree (base_of held errand) bytes t
@@ -87,7 +83,7 @@ module _ (held : Stamps) (commits : List Commit) (server : Stamps) (errand : Err
         changes = changes_to server held errand;
         spelled = cut.spelled;
         is = made;
-        tree = rw made (merged_tree _ server (paths_for server held errand) _ _ (base_tree errand) (base_far errand) (cuts errand));
+        tree = rw made (merged_tree _ server (paths_for server held errand) _ _ (base errand).0 (base errand).1 (cuts errand));
       }
 
   -- and what is held then follows the list, too

@@ -1,7 +1,7 @@
 -- Scripts that are declared, by their names and by their places.
 use Rattle.std.proofs.{Common.cond, Common.option_map, lemmas.List.get_or-map, lemmas.List.length-map}
 use Rattle.{std.specs.List.find, iot_event.specs.declared.event.Choice.Choice}
-use Rattle.iot_exchange.proofs.Common.{Bool, Bor, Code, DeclaredScript, HasNamed, IsCodeOf, IsSome, List}
+use Rattle.iot_exchange.proofs.Common.{Bor, Code, DeclaredScript, HasNamed, IsCodeOf, IsSome, List}
 use Rattle.iot_exchange.proofs.Common.{None, Option, Some, ap, bytes_eq, false, length, map, option_named, refl, script_at, script_named}
 use Rattle.iot_exchange.proofs.Common.{script_of, scripts_of, slice_get-get_or, slice_index_or, subst, sym, true, ℕ, [], ◌<◌, ◌∙◌, ◌∷◌, ◌≡◌}
 use Rattle.{iot_exchange.specs.Words.IsMeant, iot_exchange.specs.Words.ResolverIsDeclared, iot_machine.specs.Events.chosen}
@@ -15,12 +15,10 @@ found_among ws name = find (λ w. bytes_eq name w.name) ws
 
 looked_up : (ws : List DeclaredScript) (name : List ℕ) → script_named name (map script_of ws) ≡ option_map script_of (found_among ws name)
 looked_up [] name = refl
-looked_up (w ∷ ws) name = by (bytes_eq name w.name) (looked_up ws name)
-  where
-    by : (b : Bool) → script_named name (map script_of ws) ≡ option_map script_of (found_among ws name)
-        → cond b (Some (script_of w)) (script_named name (map script_of ws)) ≡ option_map script_of (cond b (Some w) (found_among ws name))
-    by true more = refl
-    by false more = more
+looked_up (w ∷ ws) name =
+    elim (bytes_eq name w.name) as (λ b. cond b (Some (script_of w)) (script_named name (map script_of ws))
+    ≡ option_map script_of (cond b (Some w) (found_among ws name)))
+    [ true ↦ refl | false ↦ looked_up ws name ]
 
 module _ (ws : List DeclaredScript) (name : List ℕ) (o : Option (Bor DeclaredScript))
     (found : option_map (λ (b : Bor DeclaredScript). b.now) o ≡ found_among ws name) where

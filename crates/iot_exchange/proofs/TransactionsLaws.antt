@@ -3,24 +3,23 @@
 use Rattle.std.proofs.lemmas.{Bool.eq-eqb, Bool.leb-false, Bool.leb-true, Option.slice_get_past, Option.slice_get_read}
 use Rattle.std.specs.{Prelude.if◌then◌else◌, Prelude.leb, Slice.IsItemAt}
 use Rattle.iot_client.specs.{Calls.is_over_if_any, Calls.live_numbered, Calls.may_end_if_any, Ties.Live}
-use Rattle.iot_exchange.proofs.Common.{ACT_LIMIT, Answers, Asks, Bool, Bor, Both, Certified}
-use Rattle.iot_exchange.proofs.Common.{Client, ClientState, Compared, Declared, Does, DoesFrom, Err, Goes, Halt, IsErrAnd, Item, ItemsStand}
-use Rattle.iot_exchange.proofs.Common.{KeepsDisk, KeepsDisks, KeepsTrails, Laptop, LaptopStands, List, Medium, NoMemory, Nodes, None}
-use Rattle.iot_exchange.proofs.Common.{Notes, Ok, Option, Over, Pair, Repeats, Result, SamePlace, ServerNode, Some, Stage, Step, Steps}
-use Rattle.iot_exchange.proofs.Common.{Tells, Then, Try, UnlessNoMemory, UpStands, Yields, act_once, after_acts, again_line, ap, append-nil}
-use Rattle.iot_exchange.proofs.Common.{begin_line, codes, compared_if, disk_in, done, false, has_any, kept, length, line, line_of, map, not}
+use Rattle.iot_exchange.proofs.Common.{ACT_LIMIT}
+use Rattle.iot_exchange.proofs.Common.{Answers, Asks, Bool, Bor, Both, Client, ClientState, Compared, Declared, Does, DoesFrom, Err}
+use Rattle.iot_exchange.proofs.Common.{Goes, Halt, IsErrAnd, Item, ItemsStand, Keeps, KeepsDisk, KeepsDisks, Laptop, LaptopStands, List}
+use Rattle.iot_exchange.proofs.Common.{Medium, NoMemory, Nodes, None, Notes, Ok, Option, Over, Pair, Reclassed, Repeats, Result, ServerNode}
+use Rattle.iot_exchange.proofs.Common.{Some, Stage, Step, Steps, Tells, Then, Try, UpStands, Yields, act_once, after_acts, again_line}
+use Rattle.iot_exchange.proofs.Common.{ap, append-nil, begin_line, codes, disk_in, done, false, kept, length, line, line_of, map, not}
 use Rattle.iot_exchange.proofs.Common.{option_copied, option_map, pends, place_said, refl, same_Some, slice_get, state_in, step_line, subst}
 use Rattle.iot_exchange.proofs.Common.{sym, transaction_name, true, two, unless_over, yield_if, yielding, ℕ, [], ◌++◌, ◌-◌, ◌∙◌, ◌∷◌, ◌≡◌}
-use Rattle.iot_exchange.proofs.DoesLaws.{Certifying, OfEach, Unless, answers}
-use Rattle.iot_exchange.proofs.DoesLaws.{asks_then, by_client, certifying, each_from, goes_from, goes_then, hands_on, in_place, keeps_more}
-use Rattle.iot_exchange.proofs.DoesLaws.{keeps_then, no_memory, noted, still, tells, then_does, yields_name, yields_pair, yields_then}
-use Rattle.iot_exchange.proofs.FirstLaws.{SameStage, resolved, same_stage}
+use Rattle.iot_exchange.proofs.DoesLaws.{Certifying, OfEach, answers, asks_then, by_client, certifying, each_from, goes_from, goes_then}
+use Rattle.iot_exchange.proofs.DoesLaws.{hands_on, in_place, keeps_more, keeps_then, no_memory, noted, still, tells, then_does, yields_pair}
+use Rattle.iot_exchange.proofs.{DoesLaws.yields_then, FirstLaws.SameStage, FirstLaws.resolved, FirstLaws.same_stage}
 use Rattle.iot_exchange.proofs.StepsLaws.{also_from, answers_from, asks_from, gets_from, refuses_from, says_from}
 use Rattle.{iot_exchange.specs.Queues.EndsAloud, iot_exchange.specs.Queues.ended_as, iot_inspect.specs.declared.waiting.RunLine.RunLine}
 use Rattle.iot_judging.proofs.NextLaws.{is_at_end, is_at_limit, is_next}
 use Rattle.iot_kept.specs.{Memory.classes_of, Memory.transaction, Memory.transactions, States.Transaction, States.numbered}
-use Rattle.iot_laptop.specs.Calls.{IsDoneIn, IsGoneIfAny, IsNext, NextIs, TakesStep, meant_in}
-use Rattle.iot_laptop.specs.{Laptops.Reclassed, Laptops.live_in, declared.needs.Gone.Gone}
+use Rattle.iot_laptop.specs.Calls.{IsGoneIfAny, IsNext, NextIs, TakesStep, meant_in}
+use Rattle.iot_laptop.specs.{Laptops.live_in, declared.needs.Gone.Gone}
 use Rattle.iot_machine.proofs.GroupingLaws.{looked, looks, regrouped, then_also}
 use Rattle.iot_machine.specs.Clients.{Acts, AtEnd, AtLimit, Next, Running, has_number, meant, next_away, next_by, next_step, so_far}
 use Rattle.iot_machine.specs.Events.{Closes, ReadsOf, StepsAloud, place_text, run_line, running_in, said_of, says_reads, step_text}
@@ -29,7 +28,7 @@ use Rattle.iot_machine.specs.{Texts.end_line, Texts.fetch_line, Texts.queue_text
 use Rattle.iot_machine.specs.Transactions.{Ends, Refuses, Same, certifies, end_by, ended_of, ends_by, fetched, next_of, step_by, step_of}
 use Rattle.{iot_machine.specs.Transactions.syncs_or_waits, iot_standing.proofs.RunsLaws.RunsAs, iot_standing.proofs.RunsLaws.number_found}
 use Rattle.iot_standing.proofs.StatesLaws.{ended_is, first_is, found_stands, may_end_is, none_is, none_yields, numbered_is}
-use Rattle.iot_standing.specs.States.{IsOver, IsUnended, RunStand}
+use Rattle.iot_standing.specs.States.{IsOver, IsUnended, RunStand, next_as}
 use Rattle.iot_tree.specs.{Tree.Path, declared.questions.Question.Question}
 use Rattle.iot_queue.specs.declared.items.Stage.TheVariants as stages
 use Rattle.iot_machine.specs.Clients as clients
@@ -254,7 +253,7 @@ module _ {D : Type 0} {medium : Medium D} {old new : Laptop D} {server : ServerN
       → UpStands medium scripts names c (two new server) (yield_if number (pends pair) pair)
   yields_there {scripts} {names} {c} {pair} number it here =
       subst (UpStands medium scripts names c (two new server)) (yields_pair number pair)
-      (in_place here (it.stands scripts pair.client here.client.is) it.place (yields_name number _ pair.client) (rw it.stamps here.follows))
+      (in_place here (it.stands scripts pair.client here.client.is) it.place refl (rw it.stamps here.follows))
 
 -- ---- steps
 
@@ -282,15 +281,19 @@ module _ {D : Type 0} {medium : Medium D} {scripts : List Declared} (number : �
 
   module _ {old new : Laptop D} {server : ServerNode D} {r : Transaction} (runs : numbered number (state_in old).running ≡ Some r) where
     -- it only yields, and then the next step follows
-    pub steps_by : {next : Next} {w : Both D} {x y z : List ℕ} {result : Result Bool Halt} → IsNext medium number old next
-        → Reclassed medium (yielding number) old new × (y ≡ x) → KeepsDisks medium (two old server) (two old server)
-        → KeepsDisk medium (disk_in old) (disk_in new) → Does medium scripts (step_by number loud next) (two new server) w y z result
+    pub steps_by : {answer : Result Step Halt} {it step : Step} {w : Both D} {x y z : List ℕ} {result : Result Bool Halt} → answer ≡ Ok it
+        → it ≡ step → NextIs medium number old answer → TakesStep medium number old new x y answer
+        → (TakesStep medium number old new x y (Ok step) → Reclassed medium (yielding number) old new × (y ≡ x))
+        → KeepsDisks medium (two old server) (two old server) → KeepsDisk medium (disk_in old) (disk_in new)
+        → Does medium scripts (step_by number loud (next_as step)) (two new server) w y z result
         → Does medium scripts (Steps number loud) (two old server) w x z result
-    steps_by is yielded keeps more does = each_from (keeps_then (keeps_more keeps more) does.disks) (λ names c pair here.
+    steps_by was is next did only keeps more does = each_from (keeps_then (keeps_more keeps more) does.disks) (λ names c pair here.
         let one = found_stands _ _ _ _ here.client.is.state number r runs in
+        let yielded = only (rw (was, is) at did) in
+        let follows = (rw (was, is) at next) scripts pair.client one.it here.client.is one.is in
         gets_from tt _ (refl, refl)
         (asks_from {next = step_of number loud} (sym (yields_of (clients.numbered number) number pair (pends pair) ∙ one.is))
-        (asks_from (sym (next_yielded one.it number pair ∙ is scripts pair.client one.it here.client.is one.is))
+        (asks_from (sym (next_yielded one.it number pair ∙ follows))
         ((rw yielded.1 at does).step _ _ _ (yields_there number yielded.0 here)))))
 
     -- it does its next act, having yielded; or it stops in that
@@ -311,11 +314,11 @@ module _ {D : Type 0} {medium : Medium D} {scripts : List Declared} (number : �
     -- it stopped in an act, or memory ran out
     pub step_halted : {x y : List ℕ} {result : Result Step Halt} {outer : Result Bool Halt} {fault : Halt} → result ≡ Err fault
         → NextIs medium number old result → IsErrAnd outer (λ other. other ≡ fault) → KeepsDisks medium (two old server) (two old server)
-        → SamePlace old new → UnlessNoMemory (done result) (KeepsTrails old new) → TakesStep medium number old new x y result
-        → KeepsDisk medium (disk_in old) (disk_in new) → Does medium scripts (Steps number loud) (two old server) (two new server) x y outer
-    step_halted {fault = NoMemory} was next is keeps place trails did more = no_memory is (keeps_more keeps more)
-    step_halted {fault = Over} was next is keeps place trails did more = acts_by (rw was at next) (hands_on refl is
-        (by_client (yields_then number (act_once number)) keeps place (rw was at trails) ((rw was at did) scripts) more))
+        → Keeps medium old new (done result) → TakesStep medium number old new x y result
+        → Does medium scripts (Steps number loud) (two old server) (two new server) x y outer
+    step_halted {fault = NoMemory} was next is keeps own did = no_memory is (keeps_more keeps own.disk)
+    step_halted {fault = Over} was next is keeps own did = acts_by (rw was at next) (hands_on refl is
+        (by_client (yields_then number (act_once number)) keeps (rw was at own) ((rw was at did) scripts)))
 
 -- the steps of the one that is meant, and what is said of it then
 abbrev pub aloud : (most : ℕ) → Running → Try Pair (Unit {0})
@@ -329,10 +332,6 @@ module _ {D : Type 0} {medium : Medium D} {scripts : List Declared} {u : Both D}
   aloud_by does = for_meant which is does.disks (λ names c pair it here found same. rw same (does.step _ _ _ here))
 
 -- ---- what becomes of one that is certified
-
-pub trails_found : (P : Type 0) (result : Result Certified Halt) → UnlessNoMemory (done result) P → Unless (compared_if result) P
-trails_found P (Ok it) so = so
-trails_found P (Err halt) so = so
 
 -- that it ends is said, and it is synced or waits by its class
 pub ends_aloud : {D : Type 0} {medium : Medium D} {scripts : List Declared} {u w : Both D} {x y z : List ℕ}
@@ -394,7 +393,8 @@ module _ {D : Type 0} {medium : Medium D} {scripts : List Declared} {u : Both D}
   not_ended may keeps wrote = for_meant which is keeps (λ names c pair it here found same. asks_from refl (unended_at it (next_of it pair)
       ((may_end_is _ _ _ _ here.client.is.state number it found).1 may (is_first it.number pair.client)) (refuses_from wrote (still here))))
 
-  module _ (over : IsDoneIn medium number u.laptop) where
+  module _ (may : may_end_if_any (numbered number (state_in u.laptop).running)
+      (live_numbered number (state_in u.laptop).running (live_in u.laptop)) ≡ true) where
     -- it is certified, and this follows in each pair
     pub certified_then : {v : Both D} {z : List ℕ} {result : Result (Unit {0}) Halt} → KeepsDisks medium u v
         → ((names : List (List ℕ)) (c : ℕ) (pair : Pair) (it : Running) → UpStands medium scripts names c u pair
@@ -402,7 +402,8 @@ module _ {D : Type 0} {medium : Medium D} {scripts : List Declared} {u : Both D}
         (Goes (Certifying number) (after_found (ended_of it (yield_if it.number (pends pair) pair)))) pair v x z result)
         → Does medium scripts (Ends which) u v x z result
     certified_then keeps each = for_meant which is keeps (λ names c pair it here found same.
-        asks_from refl (over_at it (next_of it pair) (over scripts pair.client it here.client.is found)
+        asks_from refl (over_at it (next_of it pair)
+        ((may_end_is _ _ _ _ here.client.is.state number it found).0 may (is_first it.number pair.client))
         (also_from (λ text o n step. certified number it found step) (each names c pair it here found same))))
 
     -- it has ended, this is what it was, and that is said
@@ -416,8 +417,7 @@ module _ {D : Type 0} {medium : Medium D} {scripts : List Declared} {u : Both D}
         let gone_is : (record told_as { number = it.number }) ≡ ended_of it (yield_if it.number (pends pair) pair) =
         (λ i. record {
           number = it.number;
-          name = (e.name ∙ ap (λ (n : List ℕ). transaction_name n it.number)
-              (sym (yields_name it.number (has_any (kept pair).items) pair.client))) i;
+          name = e.name i;
           printed = e.did i;
           first = (e.class ∙ ap (λ (n : ℕ). is_first it.number (yielding n pair.client)) (sym same)) i;
         }) ∙ ap (ended_of it) (yields_pair it.number pair) in
@@ -431,6 +431,5 @@ module _ {D : Type 0} {medium : Medium D} {scripts : List Declared} {u : Both D}
     end_again {v} {y} {z} read question was did wrote = certified_then did.disks (λ names c pair it here found same.
         goes_from {next = after_found (ended_of it (yield_if it.number (pends pair) pair))} was did here (λ after there.
         let name = there.client.is.name ∙ same_Some _ _ (sym there.client.named ∙ here.client.named)
-        ∙ sym (yields_name it.number (has_any (kept pair).items) pair.client)
         ∙ ap (λ (p : Pair). p.client.name) (yields_pair it.number pair) in
         says_from (wrote ∙ (λ i. y ++ again_line (transaction_name (name i) (sym same i)) read question)) there))

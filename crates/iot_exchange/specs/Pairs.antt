@@ -1,15 +1,15 @@
 -- A client with the server, as the code has them: which pair of the machine they stand for, and how they change.
 use Rattle.std.specs.Prelude.{None, Option, Vec, slice_get, ◌+◌, ◌≡◌, ◌≤◌}
-use Rattle.{std.specs.declared.alloc.Global.Global, iot_disk.specs.Disk.Medium, iot_exchange.specs.Words.Client}
-use Rattle.iot_exchange.specs.Words.{Declared, Err, Errand, Halt, IsErrand, KeepsDisk, Laptop, LaptopStands, List, Nodes, Ok, Pair, Result}
-use Rattle.iot_exchange.specs.Words.{ServerNode, ServerStands, Some, Stands, StepsTo, Try, Verdict, disk_in, is_up, stamps_in, true, ℕ}
-use Rattle.iot_judging.specs.{Lists.Follows, Verdicts.SpellsVerdict}
-use Rattle.{iot_laptop.specs.Laptops.ClientStands, iot_machine.specs.Calls.Call, iot_machine.specs.Machine.Commit}
-use Rattle.iot_machine.specs.{Nodes.Node, Refining.StepFrom, Serving.Judges, Serving.Lends, Serving.Submission, Transactions.Exchange}
-use Rattle.iot_node.specs.declared.halt.Halt.TheVariants.{NoMemory, Over}
+use Rattle.{std.specs.declared.alloc.Global.Global, iot_disk.specs.Disk.Medium}
+use Rattle.iot_exchange.specs.Words.{Client, Declared, Err, Halt, IsErrand, Laptop, LaptopStands, List, Ok}
+use Rattle.iot_exchange.specs.Words.{Pair, Result, ServerNode, ServerStands, Some, Stands, StepsTo, Try, Verdict, is_up, stamps_in, true, ℕ}
+use Rattle.{iot_judging.specs.Lists.Follows, iot_judging.specs.Verdicts.SpellsVerdict, iot_laptop.specs.Laptops.ClientStands}
+use Rattle.{iot_laptop.specs.Laptops.disk_in, iot_machine.specs.Calls.Call, iot_machine.specs.Machine.Commit, iot_machine.specs.Nodes.Node}
+use Rattle.iot_machine.specs.{Refining.StepFrom, Serving.Errand, Serving.Judges, Serving.Lends, Serving.Submission, Transactions.Exchange}
+use Rattle.iot_node.specs.{Disks.KeepsDisk, declared.halt.Halt.TheVariants.NoMemory, declared.halt.Halt.TheVariants.Over}
 use Rattle.iot_server_node.specs.{Disks.on_both, Messages.SpellsCut, Records.KeepsRecords, Servers.IsHanded, Servers.IsNamedIn}
 use Rattle.iot_server_node.specs.{Servers.KeepsBeside, Servers.disk_of, Servers.stamps_of, declared.message.Message.Message}
-use Rattle.iot_stamp.specs.Stamps.{Stamps, nodes_of}
+use Rattle.{iot_stamp.specs.Stamps.Stamps, iot_stamp.specs.Stamps.nodes_of, iot_tree.specs.Tree.Nodes}
 
 -- ---- a client and the server
 

@@ -1,7 +1,7 @@
 -- How a sync went, and what is said of how far a transaction is and of how it is resolved.
 use Rattle.std.specs.Prelude.{if◌then◌else◌, leb, ◌++◌}
 use Rattle.iot_exchange.specs.Words.{Bool, Err, Halt, List, Ok, Result, Verdict, codes, false, length, true, ℕ, []}
-use Rattle.iot_exchange.specs.declared.synced.Synced.{Synced, TheVariants.Moved, TheVariants.Stays, TheVariants.Unanswered}
+use Rattle.iot_exchange.specs.declared.queues.Synced.{Synced, TheVariants.Moved, TheVariants.Stays, TheVariants.Unanswered}
 use Rattle.{iot_inspect.specs.declared.waiting.RunLine.RunLine, iot_kept.specs.declared.running.Running.Running}
 use Rattle.iot_machine.specs.{Serving.Conflict, Serving.Settled, Texts.abort_line, Texts.conflict_line, Texts.manual_line}
 use Rattle.{iot_machine.specs.Texts.settled_line, iot_resolve.specs.declared.plan.Plan.Plan}

@@ -1,12 +1,9 @@
--- Scripts as they were declared, what a client may be asked to do with them, and for what it asks the server.
+-- Scripts as they were declared, and what a client may be asked to do with them.
 use Rattle.std.specs.Prelude.{◌<◌, ◌≤◌}
 use Rattle.iot_event.specs.declared.event.Task.{Task}
-use Rattle.iot_exchange.specs.Words.{Declared, Errand, IsProfile, IsWalkLimit, List, Refresh, ResolverIsDeclared, map, ℕ}
-use Rattle.iot_exchange.specs.declared.declared.DeclaredScript.{DeclaredScript}
-use Rattle.{iot_machine.specs.Serving.Walk, iot_tree.specs.Profiles.Profile}
+use Rattle.iot_exchange.specs.Words.{Declared, IsProfile, IsWalkLimit, List, ResolverIsDeclared, map, ℕ}
+use Rattle.{iot_exchange.specs.declared.declared.DeclaredScript.DeclaredScript, iot_tree.specs.Profiles.Profile}
 use Rattle.iot_event.specs.declared.event.Task.TheVariants as tasks
-use Rattle.iot_exchange.specs.declared.errand.Errand as code
-use Rattle.iot_exchange.specs.declared.errand.Errand.TheVariants as errands
 
 -- a script as it was declared
 abbrev pub script_of : DeclaredScript → Declared
@@ -23,13 +20,3 @@ MayDo (tasks.Repair script) scripts = script < scripts
 MayDo (tasks.Reads item) scripts = 1 ≤ item
 MayDo (tasks.Walk profile limit) scripts = IsProfile profile × IsWalkLimit limit
 MayDo other scripts = Unit {0}
-
--- for what it asks, as the code hands it on
-abbrev pub errand_of : code.Errand → Errand
-errand_of (errands.Refresh want) = Refresh want.now
-errand_of (errands.Walk profile limit) = Walk profile.now limit
-
--- it has a spelling
-abbrev pub MayAsk : Errand → Type 0
-MayAsk (Refresh want) = Unit {0}
-MayAsk (Walk profile limit) = IsProfile profile × IsWalkLimit limit

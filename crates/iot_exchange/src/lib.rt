@@ -3,13 +3,10 @@
 
 mod decisions;
 mod declared;
-mod errand;
 mod exchange;
-mod looking;
 mod objects;
 mod queues;
 mod runs;
-mod synced;
 mod tasks;
 mod texts;
 mod transactions;

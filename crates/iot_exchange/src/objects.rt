@@ -1,21 +1,17 @@
 //! What a client asks of the server: objects, over its link.
 ghost use Rattle.std.specs.Prelude.{◌≡◌, ◌≤◌};
-ghost use Rattle.iot_exchange.specs.{Pairs.Does, Pairs.IsReady, Pairs.two, Scripts.MayAsk, Scripts.errand_of};
-ghost use Rattle.iot_exchange.specs.Words.{Declared, IfOk, IsErrand, IsProfile, IsWalkLimit};
-ghost use Rattle.iot_exchange.specs.Words.{KeepsDisk, List, Nodes, OnOk, Refresh, Refreshes, Stands, disk_in, stamps_in, state_in, []};
-ghost use Rattle.{iot_judging.specs.Errands.base_of, iot_laptop.specs.Calls.Changes};
-ghost use Rattle.iot_laptop.specs.{Calls.TakesStamps, Laptops.IsFirst, Laptops.SamePlace, Messages.BringsTree, Messages.SpellsTree};
-ghost use Rattle.iot_machine.specs.{Clients.fetch, Clients.hold, Events.Hoards, Events.Walks, Transactions.Holds, Transactions.Takes};
-ghost use Rattle.{iot_tree.specs.declared.want.Want.Want as Wanted, iot_wire.specs.Meanings.IsRefresh};
+ghost use Rattle.iot_exchange.specs.Pairs.{Does, IsReady, two};
+ghost use Rattle.iot_exchange.specs.Words.{Declared, IfOk, IsErrand, IsProfile, IsWalkLimit, List, Refreshes, stamps_in, state_in, []};
+ghost use Rattle.iot_laptop.specs.Calls.{IsNoFetch, MayAsk, MayTake, errand_of, held_for};
+ghost use Rattle.iot_machine.specs.{Clients.hold, Events.Hoards, Events.Walks, Transactions.Holds, Transactions.Takes};
 
-use crate::errand::Errand;
 use crate::exchange::{exchange, miss};
 use crate::texts::{say_hoard, say_refresh, say_walk};
 use iot_disk::Disk;
-use iot_laptop::Laptop;
+use iot_laptop::{Errand, Laptop};
 use iot_node::{Halt, say};
 use iot_server_node::{Message, ServerNode};
-use iot_text::{NoMemory, Path, Text};
+use iot_text::{Path, Text};
 use iot_tree::{Duplicate, Profile, Want};
 use std::alloc::Global;
 
@@ -80,7 +76,8 @@ fn take<D: Disk>(
     out: &mut Text,
 ) -> Result<(), Halt>
     requires ready { IsReady D.medium (two laptop.old server.old) }
-    requires may { MayAsk (errand_of errand) }
+    requires may { MayAsk errand }
+    requires holds { IsNoFetch errand }
     ensures { (scripts : List Declared) → Does D.medium scripts (Takes (errand_of errand.entry))
         (two laptop.old server.old) (two laptop.new server.new) out.old out.new result }
 {
@@ -109,7 +106,8 @@ pub(crate) fn bring<D: Disk>(
 ) -> Result<bool, Halt>
     requires ready { IsReady D.medium (two laptop.old server.old) }
     requires none { (state_in laptop.old).items ≡ [] }
-    requires may { MayAsk (errand_of errand) }
+    requires may { MayAsk errand }
+    requires holds { IsNoFetch errand }
     ensures does { (scripts : List Declared) → Does D.medium scripts (Holds hold (errand_of errand.entry))
         (two laptop.old server.old) (two laptop.new server.new) out.old out.new result }
     ensures running { IfOk result (λ _. (state_in laptop.new).running ≡ (state_in laptop.old).running) }
@@ -118,81 +116,34 @@ pub(crate) fn bring<D: Disk>(
         miss(laptop, server);
         return Ok(false);
     }
-    let message = Message {
-        request: ask(laptop, alloc, errand)?,
-        handed: None,
-    };
-    match exchange(laptop, server, alloc, &message, out)? {
-        Some(reply) => {
-            take_reply(laptop, alloc, errand, &reply, out)?;
-            Ok(true)
-        }
-        None => Ok(false),
-    }
+    let request = laptop.ask(alloc, errand)?;
+    send(laptop, server, alloc, errand, request, out)
 }
 
-/// The request for it.
-fn ask<D: Disk>(laptop: &Laptop<D>, alloc: Global, errand: Errand<'_>) -> Result<Vec<u8>, NoMemory>
-    requires stands { Stands D.medium laptop.now }
-    requires place { laptop.now.place ≤ 7 }
-    requires none { (state_in laptop.now).items ≡ [] }
-    requires may { MayAsk (errand_of errand) }
-    ensures { IfOk result (λ request. IsErrand laptop.now.place (stamps_in laptop.now) (errand_of errand.entry) request.items) }
-{
-    match errand {
-        Errand::Refresh(want) => laptop.ask(alloc, want),
-        Errand::Walk { profile, limit } => laptop.ask_walk(alloc, profile, limit),
-    }
-}
-
-/// Holds what the reply brings for it.
-fn take_reply<D: Disk>(
-    laptop: &mut Laptop<D>,
-    alloc: Global,
-    errand: Errand<'_>,
-    reply: &[u8],
-    out: &mut Text,
-) -> Result<(), Halt>
-    requires stands { Stands D.medium laptop.old }
-    requires none { (state_in laptop.old).items ≡ [] }
-    requires brings { BringsTree (base_of (stamps_in laptop.old) (errand_of errand)) reply.now }
-    ensures does { (t : Nodes) → SpellsTree (base_of (stamps_in laptop.old) (errand_of errand.entry)) reply.now t
-        → Changes D.medium (hold t) laptop.old laptop.new out.old out.new result }
-    ensures running { OnOk result ((state_in laptop.new).running ≡ (state_in laptop.old).running) }
-    ensures stamps { TakesStamps (base_of (stamps_in laptop.old) (errand_of errand.entry)) reply.now laptop.old laptop.new result }
-    ensures place { SamePlace laptop.old laptop.new }
-    ensures disk { KeepsDisk D.medium (disk_in laptop.old) (disk_in laptop.new) }
-{
-    match errand {
-        Errand::Refresh(_) => laptop.take(alloc, reply, out),
-        Errand::Walk { .. } => laptop.take_walk(alloc, reply, out),
-    }
-}
-
-/// Holds what the transaction with this number misses, and tells whether it came. Then the transaction begins anew.
-pub(crate) fn fetch<D: Disk>(
+/// Sends the request for it, and holds what the reply brings. Tells whether it came.
+pub(crate) fn send<D: Disk>(
     laptop: &mut Laptop<D>,
     server: &mut ServerNode<D>,
     alloc: Global,
-    number: u64,
-    request: Text,
+    errand: Errand<'_>,
+    request: Vec<u8>,
     out: &mut Text,
 ) -> Result<bool, Halt>
     requires ready { IsReady D.medium (two laptop.old server.old) }
-    requires first { IsFirst number laptop.old }
+    requires may { MayTake errand laptop.old }
     requires none { (state_in laptop.old).items ≡ [] }
-    requires asked { (want : Wanted) × IsRefresh laptop.old.place (stamps_in laptop.old) want request }
-    ensures { (want : Wanted) → IsRefresh laptop.old.place (stamps_in laptop.old) want request
-        → (scripts : List Declared) → Does D.medium scripts (Holds (fetch number) (Refresh want))
+    requires asks { IsErrand laptop.old.place (stamps_in laptop.old) (errand_of errand) request.items }
+    ensures does { (scripts : List Declared) → Does D.medium scripts (Holds (held_for errand.entry) (errand_of errand.entry))
         (two laptop.old server.old) (two laptop.new server.new) out.old out.new result }
+    ensures running { IsNoFetch errand.entry → IfOk result (λ _. (state_in laptop.new).running ≡ (state_in laptop.old).running) }
 {
     let message = Message {
-        request: request.into_bytes(),
+        request,
         handed: None,
     };
     match exchange(laptop, server, alloc, &message, out)? {
         Some(reply) => {
-            laptop.fetched(alloc, number, &reply, out)?;
+            laptop.take(alloc, errand, &reply, out)?;
             Ok(true)
         }
         None => Ok(false),

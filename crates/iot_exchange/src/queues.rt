@@ -1,26 +1,67 @@
 //! The transactions of a client that wait for the server.
-ghost use Rattle.iot_exchange.specs.{Pairs.Does, Pairs.IsReady, Pairs.IsReadyWith, Pairs.two, Queues.DrainsQuietly, Queues.First};
-ghost use Rattle.iot_exchange.specs.{Saying.synced_by, Scripts.scripts_of, Words.Declared, Words.List, Words.Some, Words.SyncsAll};
+ghost use Rattle.std.specs.Prelude.{◌≡◌};
+ghost use Rattle.iot_exchange.specs.{Pairs.Does, Pairs.IsReady, Pairs.IsReadyWith, Pairs.two, Queues.DrainsQuietly};
+ghost use Rattle.iot_exchange.specs.{Queues.First, Saying.synced_by, Saying.synced_of, Saying.told_synced, Scripts.scripts_of};
+ghost use Rattle.iot_exchange.specs.Words.{Declared, List, Some, SyncsAll, verdict_of};
 ghost use Rattle.iot_laptop.specs.Calls.{AsksAll, HandsIn};
-ghost use Rattle.iot_machine.specs.{Events.Drains, Transactions.Syncs};
+ghost use Rattle.iot_machine.specs.{Events.Drains, Transactions.Syncs, Transactions.moves};
 
 use crate::declared::DeclaredScript;
 use crate::exchange::{exchange, miss};
 use crate::objects::refresh;
-use crate::synced::Synced;
 use crate::texts::{say_of, say_resolve, say_told};
 use iot_disk::Disk;
 use iot_lang::Script;
-use iot_laptop::{Laptop, Need, Submitted};
+use iot_laptop::{Laptop, Need, Submitted, Told, Verdict};
 use iot_node::{Halt, Transaction, say};
 use iot_server_node::{Handed, Message, ServerNode};
 use iot_text::{Name, NoMemory, Text};
+use iot_tree::OnConflict;
 use std::alloc::Global;
 use std::rc::Rc;
 
 // ---- the first that waits
 
+/// How it went to sync the first transaction that waits.
+#[derive(Clone, Copy)]
+pub(crate) enum Synced {
+    /// It left or is further, and the next may follow.
+    Moved,
+
+    /// None waits, or it waits for a decision by hand.
+    Stays,
+
+    /// No reply came.
+    Unanswered,
+}
+
+impl Synced {
+    /// How it went if the client was told this.
+    pub(crate) fn by(told: &Told) -> Synced
+        ensures { synced_of result ≡ told_synced (verdict_of told.now.verdict) told.now.option }
+    {
+        match told.verdict {
+            Verdict::Settled { .. } => Synced::Moved,
+            Verdict::Conflict { .. } => match told.option {
+                OnConflict::Reexec | OnConflict::Resolver(_) | OnConflict::Abort => Synced::Moved,
+                OnConflict::Manual => Synced::Stays,
+            },
+        }
+    }
+
+    /// Whether the next may follow.
+    pub(crate) fn moves(self) -> bool
+        ensures { result ≡ moves (synced_of self) }
+    {
+        match self {
+            Synced::Moved => true,
+            Synced::Stays | Synced::Unanswered => false,
+        }
+    }
+}
+
 /// Submits or resolves the first transaction that waits, by its stage, and tells how that went.
+#[tactic(auto, using(crate::proofs::FirstLaws::some_waits))]
 pub(crate) fn sync<D: Disk>(
     laptop: &mut Laptop<D>,
     server: &mut ServerNode<D>,
@@ -61,6 +102,7 @@ pub(crate) fn sync<D: Disk>(
 }
 
 /// Submits the first transaction that waits, and takes the verdict, if one comes.
+#[tactic(auto, using(crate::proofs::DoesLaws::no_memory, crate::proofs::DoesLaws::keeps_more, crate::proofs::FirstLaws::synced_err))]
 fn submit<D: Disk>(
     laptop: &mut Laptop<D>,
     server: &mut ServerNode<D>,
@@ -95,6 +137,7 @@ fn submit<D: Disk>(
 }
 
 /// Brings the server's whole tree by this request, and resolves the first transaction that waits on it, if it comes.
+#[tactic(auto, using(crate::proofs::DoesLaws::no_memory, crate::proofs::DoesLaws::keeps_more, crate::proofs::FirstLaws::synced_err))]
 fn resolve<D: Disk>(
     laptop: &mut Laptop<D>,
     server: &mut ServerNode<D>,

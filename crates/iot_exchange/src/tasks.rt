@@ -1,22 +1,24 @@
 //! What a client is asked to do.
-ghost use Rattle.std.specs.Prelude.{◌≡◌};
-ghost use Rattle.iot_exchange.specs.Pairs.{AnyStands, Does, IsReadyWith, IsStandingWith, KeepsDisks, two};
-ghost use Rattle.iot_exchange.specs.Scripts.{MayDo, scripts_of};
-ghost use Rattle.iot_exchange.specs.Words.{List, OnOk, ResolverIsDeclared, StepsTo, length, ℕ};
-ghost use Rattle.iot_machine.specs.Events.{IfUp, chosen, task_part};
-ghost use Rattle.iot_standing.specs.Scripts.{AreApart, option_named};
+ghost use Rattle.std.specs.Prelude.{◌++◌, ◌-◌, ◌≡◌, ◌≤◌};
+ghost use Rattle.iot_exchange.specs.Pairs.{AnyStands, Does, IsReady, IsReadyWith, IsStandingWith, KeepsDisks, two};
+ghost use Rattle.iot_exchange.specs.{Saying.line_of, Scripts.MayDo, Scripts.scripts_of, Words.Client, Words.Declared};
+ghost use Rattle.iot_exchange.specs.Words.{IfOk, LaptopStands, List, OnOk, ResolverIsDeclared, ServerNode, Stands, StepsTo, length, map, ℕ};
+ghost use Rattle.iot_machine.specs.{Events.IfUp, Events.ReadsOf, Events.chosen, Events.running_in, Events.task_part, Recorded.queue_kept};
+ghost use Rattle.{iot_machine.specs.Texts.queue_text, iot_standing.specs.Scripts.AreApart, iot_standing.specs.Scripts.option_named};
 
 use crate::decisions::{discard, repair};
 use crate::declared::DeclaredScript;
-use crate::looking::{say_queue, say_reads};
 use crate::objects::{hoard, refresh, walk};
 use crate::queues::{drain, sync};
 use crate::runs::run;
 use crate::transactions::{begin_aloud, end, step_aloud};
+use iot_client::Running;
 use iot_disk::Disk;
 use iot_event::{Choice, SharedProfile, Task};
+use iot_inspect::{RunLine, queue, reads};
 use iot_laptop::Laptop;
 use iot_node::{Halt, say};
+use iot_queue::Item;
 use iot_server_node::ServerNode;
 use iot_text::{NoMemory, Text};
 use iot_tree::OnConflict;
@@ -114,5 +116,49 @@ fn by_name(scripts: &[DeclaredScript], option: Choice<u64>) -> OnConflict
         Choice::Resolver(script) => OnConflict::Resolver(scripts[script as usize].name),
         Choice::Abort => OnConflict::Abort,
         Choice::Manual => OnConflict::Manual,
+    }
+}
+
+// ---- what is looked at
+
+/// Says the client's transactions: those that wait, and then those that run.
+fn say_queue<D: Disk>(laptop: &Laptop<D>, alloc: Global, out: &mut Text) -> Result<(), NoMemory>
+    requires { Stands D.medium laptop.now }
+    ensures { OnOk result ((scripts : List Declared) (m : Client) → LaptopStands D.medium scripts laptop.now m
+        → out.new ≡ out.old ++ queue_text m.name (queue_kept m.node.durable) (running_in m)) }
+{
+    let lines = lines_of(alloc, laptop.running())?;
+    queue(laptop.name(), laptop.client().queue(), &lines, out)
+}
+
+/// A line for each transaction that runs.
+fn lines_of(alloc: Global, running: &[Running]) -> Result<Vec<RunLine>, NoMemory>
+    ensures { IfOk result (λ lines. lines.items ≡ map line_of running.now) }
+{
+    let mut lines = Vec::new(alloc);
+    'running: for it in running {
+        lines.push(RunLine {
+            tid: it.tid,
+            script: it.script,
+            first: it.first,
+            acts: it.acts.len() as u64,
+        })?;
+    }
+    Ok(lines)
+}
+
+/// Says what the client's transaction at this place of those that wait, from 1, has read in its own run, if so many wait.
+fn say_reads<D: Disk>(laptop: &Laptop<D>, place: u64, out: &mut Text) -> Result<(), Halt>
+    requires stands { Stands D.medium laptop.now }
+    requires counts { 1 ≤ place }
+    ensures { (server : ServerNode D) → IsReady D.medium (two laptop.now server) → (scripts : List Declared)
+        → Does D.medium scripts (ReadsOf place) (two laptop.now server) (two laptop.now server) out.old out.new result }
+{
+    match laptop.client().queue().items().get(place as usize - 1) {
+        Some(item) => Ok(reads(item, out)?),
+        None => {
+            say(b"nothing", out)?;
+            Err(Halt::Over)
+        }
     }
 }

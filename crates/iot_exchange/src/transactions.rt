@@ -5,14 +5,12 @@ ghost use Rattle.iot_exchange.specs.Words.{Begins, Chosen, Declared, IsMeant, Li
 ghost use Rattle.iot_machine.specs.{Calls.Repeats, Events.BeginsAloud, Events.StepsAloud, Transactions.Ends, Transactions.Steps};
 
 use crate::declared::DeclaredScript;
-use crate::errand::Errand;
-use crate::objects::{bring, fetch};
-use crate::queues::sync;
-use crate::synced::Synced;
+use crate::objects::{bring, send};
+use crate::queues::{Synced, sync};
 use crate::texts::{say_begin, say_fetch, say_of, say_pending, say_read, say_step};
 use iot_client::Step;
 use iot_disk::Disk;
-use iot_laptop::{Certified, Gone, Laptop};
+use iot_laptop::{Certified, Errand, Gone, Laptop};
 use iot_node::{Halt, say};
 use iot_server_node::ServerNode;
 use iot_text::{NoMemory, Text};
@@ -146,7 +144,11 @@ fn step<D: Disk>(
     match laptop.step(alloc, number, out)? {
         Step::Acted { .. } => Ok(true),
         Step::Fetch { request, path } => {
-            let came = fetch(laptop, server, alloc, number, request, out)?;
+            let errand = Errand::Fetch {
+                number,
+                path: &path,
+            };
+            let came = send(laptop, server, alloc, errand, request.into_bytes(), out)?;
             if !loud {
                 return Ok(true);
             }
@@ -162,6 +164,7 @@ fn step<D: Disk>(
 
 /// Ends the running transaction that is meant, if its script has ended or may do no more acts: it waits, or starts again on the view, which
 /// is said. One of first class that waits is synced at once.
+#[tactic(auto, using(crate::proofs::DoesLaws::no_memory, crate::proofs::DoesLaws::keeps_more))]
 pub(crate) fn end<D: Disk>(
     laptop: &mut Laptop<D>,
     server: &mut ServerNode<D>,

@@ -1,23 +1,17 @@
-use Rattle.iot_exchange.proofs.Common.{List, ap, line, sym, ℕ, ◌++◌, ◌∙◌}
-use Rattle.iot_exchange.proofs.DoesLaws.{by_client, goes_from, hands_on, notes}
-use Rattle.iot_exchange.proofs.{FirstLaws.decided, FirstLaws.decides, FirstLaws.undecided, StepsLaws.says_from}
-use Rattle.iot_machine.specs.{Clients.leave, Texts.discard_line}
+use Rattle.iot_exchange.proofs.{Common.List, Common.ap, Common.line, Common.sym, Common.ℕ, Common.◌++◌, Common.◌∙◌, DoesLaws.by_client}
+use Rattle.iot_exchange.proofs.{DoesLaws.goes_from, DoesLaws.hands_on, DoesLaws.notes, FirstLaws.decides, FirstLaws.undecided}
+use Rattle.{iot_exchange.proofs.StepsLaws.says_from, iot_machine.specs.Clients.leave, iot_machine.specs.Texts.discard_line}
 use Rattle.iot_exchange.proofs.decisions.discard.Goals as goal
-
-pub discard-requires-clause-manual : goal.discard-requires-clause-manual
-discard-requires-clause-manual g c = (decided c.args.laptop.now _ (sym c.decision.ensures ∙ c.in-Ok.is)).1
 
 pub returns-in_err-discard-in-Ok : goal.returns-in_err-discard-in-Ok
 returns-in_err-discard-in-Ok g c server ready scripts =
-    let noted = by_client (notes leave) ready.keeps c.discard.ensures.place c.discard.ensures.trails (c.discard.ensures.does scripts)
-    c.discard.ensures.disk in
+    let noted = by_client (notes leave) ready.keeps c.discard.ensures.keeps (c.discard.ensures.does scripts) in
     decides (sym c.decision.ensures ∙ c.in-Ok.is) noted.disks (λ names at mi named pair here.
     (hands_on c.in_err-discard-in-Ok.was c.from_residual.ensures.1 noted).step _ _ _ here)
 
 pub returns-in_ok-say_of-in-Ok : goal.returns-in_ok-say_of-in-Ok
 returns-in_ok-say_of-in-Ok g c server ready scripts =
-    let noted = by_client (notes leave) ready.keeps c.discard.ensures.place c.discard.ensures.trails (c.discard.ensures.does scripts)
-    c.discard.ensures.disk in
+    let noted = by_client (notes leave) ready.keeps c.discard.ensures.keeps (c.discard.ensures.does scripts) in
     decides (sym c.decision.ensures ∙ c.in-Ok.is) noted.disks (λ names at mi named pair here.
     goes_from c.in_ok-discard-in-Ok.was noted here (λ after there. says_from (c.in_ok-say_of-in-Ok.ensures
     ∙ ap (λ (n : List ℕ). c.discard.new.out ++ discard_line n) (sym (named after there))) there))

@@ -1,6 +1,5 @@
-use Rattle.iot_exchange.proofs.Common.{is_up}
-use Rattle.iot_exchange.proofs.ExchangeLaws.{away, comes, got, none_comes, reply_lost, request_lost}
-use Rattle.{iot_exchange.proofs.FollowingLaws.grows, iot_machine.proofs.PairLaws.both_reached}
+use Rattle.iot_exchange.proofs.ExchangeLaws.{away, comes, none_comes, reply_lost, request_lost}
+use Rattle.iot_exchange.proofs.FollowingLaws.{grows}
 use Rattle.iot_exchange.proofs.exchange.exchange.Goals as goal
 
 pub returns-in-Away-clause-replied : goal.returns-in-Away-clause-replied
@@ -14,11 +13,6 @@ returns-in-RequestLost-clause-replied g c = record {
   is = λ scripts names at query asks.
       request_lost c.args.server.now c.is_up-up.ensures c.pass.ensures.passage c.pass.ensures.after c.in-RequestLost.is;
 }
-
-pub serve-requires-in-Both-clause-up : goal.serve-requires-in-Both-clause-up
-serve-requires-in-Both-clause-up g c =
-    both_reached c.args.laptop.now.link (is_up c.args.server.now)
-    (got c.args.server.now c.is_up-up.ensures c.pass.ensures.passage c.pass.ensures.after c.in-Both.is)
 
 pub returns-in_ok-_lost-in-ReplyLost-clause-replied : goal.returns-in_ok-_lost-in-ReplyLost-clause-replied
 returns-in_ok-_lost-in-ReplyLost-clause-replied g c = record {
@@ -44,5 +38,5 @@ pub returns-in-None-clause-replied : goal.returns-in-None-clause-replied
 returns-in-None-clause-replied g c = record {
   is = λ scripts names at query asks.
       none_comes c.args.server.now c.is_up-up.ensures c.pass.ensures.passage c.pass.ensures.after (grows query) c.in-Both.is
-      (rw c.in-None.is at (c.in_ok-reply-in-Both.ensures.asks names query asks)) c.broke.ensures.after;
+      (rw c.in-None.is at (c.in_ok-reply-in-Both.ensures.asks names query asks)) c.broke.ensures;
 }

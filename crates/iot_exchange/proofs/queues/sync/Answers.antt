@@ -1,13 +1,10 @@
 use Rattle.iot_exchange.proofs.Common.{sym, ◌∙◌}
-use Rattle.iot_exchange.proofs.FirstLaws.{decided, first_of, is_undecided, none_waits, some_waits, syncs_away, syncs_by_hand, syncs_none}
+use Rattle.iot_exchange.proofs.FirstLaws.{decided, first_of, is_undecided, none_waits, syncs_away, syncs_by_hand, syncs_none}
 use Rattle.iot_exchange.proofs.queues.sync.Goals as goal
 
 pub returns-in_default : goal.returns-in_default
 returns-in_default g c =
     syncs_none (none_waits c.args.laptop.now _ (sym c.head.ensures ∙ c.in_default.is)) c.requires.ready.keeps c.in_ok-say.ensures
-
-pub need-requires-clause-waits : goal.need-requires-clause-waits
-need-requires-clause-waits g c = some_waits c.args.laptop.now _ (sym c.head.ensures ∙ c.in-Some.is)
 
 pub submit-requires-clause-first : goal.submit-requires-clause-first
 submit-requires-clause-first g c =

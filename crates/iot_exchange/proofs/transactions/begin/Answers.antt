@@ -1,5 +1,5 @@
-use Rattle.iot_exchange.proofs.Common.{KeepsTrails, false, script_of, sym, ◌∙◌}
-use Rattle.iot_exchange.proofs.DoesLaws.{asks_then, by_client, goes_then, hands_on, ready_after, refuses, starts, unless_done}
+use Rattle.iot_exchange.proofs.Common.{false, script_of, sym, ◌∙◌}
+use Rattle.iot_exchange.proofs.DoesLaws.{asks_then, by_client, goes_then, hands_on, ready_after, refuses, starts}
 use Rattle.iot_exchange.proofs.ExchangeLaws.{full_here, pends_here}
 use Rattle.iot_exchange.proofs.transactions.begin.Goals as goal
 
@@ -7,16 +7,12 @@ pub returns-then-is_full : goal.returns-then-is_full
 returns-then-is_full g c scripts on_conflict means =
     asks_then (full_here (sym c.is_full.ensures ∙ c.if-is_full.true)) (refuses c.requires.keeps c.in_ok-say.ensures)
 
-pub begin-requires-clause-script : goal.begin-requires-clause-script
-begin-requires-clause-script g c = rw c.in_ok-code.ensures.value c.in_ok-code.ensures.script
-
 pub returns-then-waits : goal.returns-then-waits
 returns-then-waits g c scripts on_conflict means =
     let did = rw c.in_ok-code.ensures.value at c.begin.ensures.does in
     asks_then (full_here (sym c.is_full.ensures ∙ c.if-is_full.false)) (asks_then (pends_here (sym c.waits.ensures ∙ c.if-waits.true))
-    (by_client (starts (script_of c.args.script.now) on_conflict false) c.requires.keeps c.begin.ensures.place
-    (unless_done (KeepsTrails c.args.laptop.now c.begin.new.self) c.begin.result c.begin.ensures.trails)
-    (did scripts on_conflict means.script_is means.resolver means.option_is) c.begin.ensures.disk))
+    (by_client (starts (script_of c.args.script.now) on_conflict false) c.requires.keeps c.begin.ensures.keeps
+    (did scripts on_conflict means.script_is means.resolver means.option_is)))
 
 pub returns-in_err-first : goal.returns-in_err-first
 returns-in_err-first g c scripts on_conflict means =
@@ -26,14 +22,10 @@ returns-in_err-first g c scripts on_conflict means =
 pub begin-requires-2-clause-stands : goal.begin-requires-2-clause-stands
 begin-requires-2-clause-stands g c = (ready_after c.in_ok-first.was (c.bring.ensures.does _) c.requires.stands).ready.alive
 
-pub begin-requires-2-clause-script : goal.begin-requires-2-clause-script
-begin-requires-2-clause-script g c = rw c.in_ok-code.ensures.value c.in_ok-code.ensures.script
-
 pub returns : goal.returns
 returns g c scripts on_conflict means =
     let did = rw c.in_ok-code.ensures.value at c.begin-2.ensures.does in
     asks_then (full_here (sym c.is_full.ensures ∙ c.if-is_full.false)) (asks_then (pends_here (sym c.waits.ensures ∙ c.if-waits.false))
     (goes_then c.in_ok-first.was (c.bring.ensures.does scripts)
     (by_client (starts (script_of c.args.script.now) on_conflict c.in_ok-first.first) (c.bring.ensures.does scripts).disks
-    c.begin-2.ensures.place (unless_done (KeepsTrails c.bring.new.laptop c.begin-2.new.self) c.begin-2.result c.begin-2.ensures.trails)
-    (did scripts on_conflict means.script_is means.resolver means.option_is) c.begin-2.ensures.disk)))
+    c.begin-2.ensures.keeps (did scripts on_conflict means.script_is means.resolver means.option_is))))

@@ -1,6 +1,6 @@
 use Rattle.iot_exchange.proofs.Common.{State, ap, on_ok_weaker, ◌++◌, ◌∙◌}
 use Rattle.{iot_exchange.proofs.TransactionsLaws.says_queue, iot_inspect.specs.Texts.queue_text}
-use Rattle.iot_exchange.proofs.looking.say_queue.Goals as goal
+use Rattle.iot_exchange.proofs.tasks.say_queue.Goals as goal
 
 pub returns : goal.returns
 returns g c =

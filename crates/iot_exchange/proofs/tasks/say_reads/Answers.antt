@@ -1,6 +1,6 @@
 use Rattle.iot_exchange.proofs.Common.{State, ap, option_copied, ◌∙◌}
 use Rattle.iot_exchange.proofs.{DoesLaws.refuses, DoesLaws.tells, TransactionsLaws.reads_at}
-use Rattle.iot_exchange.proofs.looking.say_reads.Goals as goal
+use Rattle.iot_exchange.proofs.tasks.say_reads.Goals as goal
 
 pub returns-in_ok-reads-in-Some : goal.returns-in_ok-reads-in-Some
 returns-in_ok-reads-in-Some g c server ready scripts =
