@@ -19,16 +19,15 @@ use Rattle.iot_world.specs.Disks.{AreFresh, AreTwoUnarmed, CountOn, HasEnds, Ser
 use Rattle.iot_world.specs.Disks.{with_ends, SameOrRose, IsUnarmed}
 use Rattle.iot_world.specs.Allowed.{promotes}
 use Rattle.iot_world.specs.World.{StandsFor, IsWorldOf, IsWorldOfSome, EventSteps, DeclaredOn, client_count, script_names, disks_of}
-use Rattle.iot_world.specs.World.{Each, Opens, KeepsDisks, AreUnarmed, SameArms, GivesBack, joined_by}
+use Rattle.iot_world.specs.World.{Each, Opens, KeepsDisks, SameArms, GivesBack, joined_by}
 use Rattle.iot_world.specs.declared.world.World.{World}
 use Rattle.iot_world.proofs.AllowedLaws as worlds
-use Rattle.iot_world.proofs.DisksLaws.{last_here, last_then}
 use Rattle.iot_world.proofs.BeginsLaws.{begins_or}
 use Rattle.iot_world.proofs.HoldingLaws.{used_first, eight_spare, eight_counts, disks_hold, disks_count, hold_count, placed_in}
-use Rattle.iot_world.proofs.HoldingLaws.{still_begins_at, world_begins}
-use Rattle.iot_world.proofs.PlacesLaws.{ends_as, ends_length, server_list}
+use Rattle.iot_world.proofs.HoldingLaws.{hold_begins, still_begins_at, world_begins}
+use Rattle.iot_world.proofs.PlacesLaws.{ends_as, server_list}
 use Rattle.iot_world.specs.Disks.{CountsServer, place_of}
-use Rattle.iot_world.specs.Prelude.{Client, Disks, HasPlaces}
+use Rattle.iot_world.specs.Prelude.{Client, HasPlaces}
 use Rattle.iot_world.specs.World.{with_clients}
 use Rattle.iot_world.proofs.DeclaringLaws.{handed_are}
 use Rattle.iot_world.proofs.HoldingLaws.{clients_before}
@@ -104,22 +103,22 @@ counts_eight m eight =
 server_there : {D : Type 0} (medium : Medium D) (world : World D) → HasPlaces world.server
     → (first : D) × (last : D) × (disks_of world ≡ with_ends first last (with_clients world.clients.items [] ++ world.spare.items))
 server_there medium world it = (
-  it.placed.first,
-  it.placed.last,
-  server_list medium world.server it.placed.promoted it.placed.first it.placed.last
-      (it.has ∙ ap (λ (disks : Disks _). Some disks) it.placed.is) (with_clients world.clients.items world.spare.items)
-      ∙ ap (λ (ds : List _). with_ends it.placed.first it.placed.last ds) (clients_before world.clients.items world.spare.items),
+  it.first,
+  it.last,
+  server_list medium world.server it.promoted it.first it.last it.has (with_clients world.clients.items world.spare.items)
+      ∙ ap (λ (ds : List _). with_ends it.first it.last ds) (clients_before world.clients.items world.spare.items),
 )
 
 -- nothing was done to them
 pub keeps_same : {D : Type 0} (world : World D) → KeepsDisks world world
-keeps_same world = record { has = λ had. had; spare = last_here world.spare.items }
+keeps_same world = record { has = λ had. had; taken = []; spare = refl }
 
 -- they were kept, and then kept again
 pub keeps_then : {D : Type 0} (old mid new : World D) → KeepsDisks old mid → KeepsDisks mid new → KeepsDisks old new
 keeps_then old mid new first second = record {
   has = λ had. second.has (first.has had);
-  spare = last_then new.spare.items mid.spare.items old.spare.items first.spare second.spare;
+  taken = first.taken ++ second.taken;
+  spare = first.spare ∙ ap (λ ds. first.taken ++ ds) second.spare ∙ sym (append_assoc first.taken second.taken new.spare.items);
 }
 
 module _ {D : Type 0} (medium : Medium D) where
@@ -236,7 +235,12 @@ module _ {D : Type 0} (medium : Medium D) (disks : List D) (before world : World
   pub disks_keep_at : ((disk : D) → medium.may_leave disk (medium.reads disk)) → (place : ℕ)
       → ((m : Machine) → StandsFor medium world m → place ≡ place_of m.promoted) → (m : Machine) → StandsFor medium world m
       → DisksKeepAt medium disks (disks_of world) place m
-  disks_keep_at is_image place at m here = record { keeps = disks_keep is_image m here; at = at m here }
+  unfolding disks_keep
+  disks_keep_at is_image place at m here = record {
+    keeps = disks_keep is_image m here;
+    at = at m here;
+    begins = hold_begins medium is_image disks before world m x y here opens same;
+  }
 
   -- and what is known of them if memory ran out
   pub disks_stay : (later : List Event) (m : Machine) → StaysIn medium world later m → DisksStay medium disks (disks_of world) later m
@@ -258,9 +262,9 @@ module _ {D : Type 0} (medium : Medium D) (disks : List D) (before world : World
             ends_as (λ (one other : D) (xs : List D). ServerBegins medium (m.promoted || promotes_next later) m.server.durable one other)
             stays.ends.first stays.ends.last it.0 it.1 stays.ends.others others_now (sym stays.ends.is ∙ is) stays.begins;
         first_handed = opens.first;
-        front = same.spare.front;
+        front = same.taken;
         last_handed = opens.last;
-        was = opens.were ∙ ap (λ (ds : List D). with_ends opens.first opens.last ds) same.spare.split;
+        was = opens.were ∙ ap (λ (ds : List D). with_ends opens.first opens.last ds) same.spare;
         aligned =
             omega (
               arith,
@@ -269,8 +273,8 @@ module _ {D : Type 0} (medium : Medium D) (disks : List D) (before world : World
               length-append (with_clients world.clients.items []) world.spare.items,
               opens.stands.stands.eight,
               opens.no_clients,
-              ap length same.spare.split,
-              length-append same.spare.front world.spare.items,
+              ap length same.spare,
+              length-append same.taken world.spare.items,
             );
         few =
             omega (
@@ -495,6 +499,12 @@ module _ {D : Type 0} (medium : Medium D) (disks back : List D) (events : List E
   abbrev counts : List Counts
   counts = map (counts_on medium) disks
 
+  abbrev was : HasEnds disks
+  was = gives.unarmed.was
+
+  abbrev now : HasEnds back
+  now = gives.unarmed.now
+
   started_counts : (was : HasEnds disks) → CountOn medium (started counts) was.first was.last was.others
   started_counts was =
       let server = handed_are medium disks was.first was.last was.others was.is fresh in
@@ -513,20 +523,19 @@ module _ {D : Type 0} (medium : Medium D) (disks back : List D) (events : List E
     machine = started counts;
     transcript = starts counts;
     stayed = record {
-      first = gives.now.first;
+      first = now.first;
       used = [];
-      spare = gives.now.others;
-      last = gives.now.last;
-      is = gives.now.is;
+      spare = now.others;
+      last = now.last;
+      is = now.is;
       counted =
-          since_then medium (started counts) gives.was.first gives.was.last gives.now.first gives.now.last gives.unarmed gives.was.others
-          gives.now.others (started_counts gives.was)
-          (subst (λ (ds : List D). Each (IsUnarmed medium) gives.was.others ds) (sym gives.same) (unarmed medium gives.was.others));
-      begins = record { of_last = gives.last; of_first = λ none. gives.first };
-      first_handed = gives.was.first;
+          since_then medium (started counts) was.first was.last now.first now.last gives.unarmed.server was.others now.others
+          (started_counts was) gives.unarmed.each;
+      begins = record { of_last = gives.begins.of_last; of_first = λ none. gives.begins.of_first refl };
+      first_handed = was.first;
       front = [];
-      last_handed = gives.was.last;
-      was = gives.was.is ∙ ap (λ (ds : List D). with_ends gives.was.first gives.was.last ds) (sym gives.same);
+      last_handed = was.last;
+      was = was.is ∙ ap (λ (ds : List D). with_ends was.first was.last ds) (sym gives.same);
       aligned = refl;
       few = omega arith;
     };

@@ -15,13 +15,12 @@ use Rattle.iot_words.specs.declared.jobs.Run.{Run}
 use Rattle.iot_words.specs.declared.jobs.Run.TheVariants.{Transcript as Plays, Json, Generate, Save}
 use Rattle.std.proofs.Common.{◌<◌, Bool, true, false, slice_get}
 use Rattle.std.proofs.Math.Seq.{get_or-append_seam, set-append_seam}
-use Rattle.iot_world.specs.Disks.{AreFresh, CountsServer, counts_on, other_of, own_of, place_of, with_ends}
+use Rattle.iot_world.specs.Disks.{AreFresh, CountsServer, ServerBegins, counts_on, other_of, own_of, place_of, with_ends}
 use Rattle.iot_world.specs.Holding.{DisksHold, HoldsServer, KeepsClient}
 use Rattle.iot_world.proofs.BeginsLaws.{begins_or}
 use Rattle.iot_world.proofs.PlacesLaws.{ends_length}
 use Rattle.iot_world.specs.World.{StandsFor, IsWorldOfSome}
 use Rattle.iot_world.specs.declared.world.World.{World}
-use Rattle.iot_world.proofs.HoldingLaws.{held_begins}
 use Rattle.iot_world.proofs.ListLaws.{each_length}
 use Rattle.iot_app.specs.Counting.{HasCounted}
 use Rattle.iot_app.specs.Doing.{Did}
@@ -319,6 +318,19 @@ module _ {D : Type 0} (medium : Medium D) (handed old : List D) (fresh : AreFres
     aligned = before.aligned;
   }
 
+  -- if the two begin with these commits, they still do
+  begins_now : (promoted : Bool) (one other : D) (commits : List Commit) → was ≡ own_of promoted one other
+      → ServerBegins medium promoted commits one other
+      → ServerBegins medium promoted commits (first_after promoted now one) (last_after promoted now other)
+  begins_now false one other commits own begins = record {
+    of_last = begins.of_last;
+    of_first = λ none. record { each = λ image leaves. (rw (← own) at (begins.of_first none)).each image (images.was image leaves) };
+  }
+  begins_now true one other commits own begins = record {
+    of_last = record { each = λ image leaves. (rw (← own) at begins.of_last).each image (images.was image leaves) };
+    of_first = begins.of_first;
+  }
+
   other_is : counts_on medium (other_of m.promoted before.first before.last) ≡ counts_on medium (other_of m.promoted first last)
   other_is = ap (counts_on medium) (sym (other_after m.promoted now before.first before.last))
 
@@ -344,6 +356,12 @@ module _ {D : Type 0} (medium : Medium D) (handed old : List D) (fresh : AreFres
         };
       }
 
+  pub begins_read : (stayed : Stayed (counts_on medium was).faults (counts_on medium now).faults)
+      → ServerBegins medium m.promoted m.server.durable before.first before.last
+      → ServerBegins medium m.promoted m.server.durable (keeps_read stayed).holds.first (keeps_read stayed).holds.last
+  unfolding keeps_read
+  begins_read stayed begins = begins_now m.promoted before.first before.last m.server.durable was_own begins
+
   -- or one did
   pub keeps_unread : Rose (counts_on medium was).faults (counts_on medium now).faults
       → DisksKeepUnread medium handed (slice_set old place now) m
@@ -366,9 +384,10 @@ module _ {D : Type 0} (medium : Medium D) (handed old : List D) (fresh : AreFres
       )
 
 -- memory ran out later
-pub keeps_stay : {D : Type 0} (medium : Medium D) (is_image : (disk : D) → medium.may_leave disk (medium.reads disk)) (handed back : List D)
-    (later : List Event) (m : Machine) → DisksKeep medium handed back m → DisksStay medium handed back later m
-keeps_stay medium is_image handed back later m keeps =
+pub keeps_stay : {D : Type 0} (medium : Medium D) (handed back : List D) (later : List Event) (m : Machine)
+    (keeps : DisksKeep medium handed back m)
+    → ServerBegins medium m.promoted m.server.durable keeps.holds.first keeps.holds.last → DisksStay medium handed back later m
+keeps_stay medium handed back later m keeps begins =
     let holds = keeps.holds in
     let others = holds.clients ++ holds.spare in
     record {
@@ -381,8 +400,7 @@ keeps_stay medium is_image handed back later m keeps =
           since_then medium m holds.first holds.last holds.first holds.last (two_same medium holds.first holds.last) others others
           keeps.counted (unarmed medium others);
       begins =
-          begins_or medium m.server.durable m.promoted (promotes_next later) holds.first holds.last
-          (held_begins medium is_image handed back m holds);
+          begins_or medium m.server.durable m.promoted (promotes_next later) holds.first holds.last begins;
       first_handed = holds.first_handed;
       front = holds.front;
       last_handed = holds.last_handed;
@@ -392,7 +410,7 @@ keeps_stay medium is_image handed back later m keeps =
     }
 
 -- and then the disk could not be read
-module _ {D : Type 0} (medium : Medium D) (is_image : (disk : D) → medium.may_leave disk (medium.reads disk)) (handed old : List D)
+module _ {D : Type 0} (medium : Medium D) (handed old : List D)
     (fresh : AreFresh medium handed) (place : ℕ) (was now : D) (here : was ≡ get_or old place was)
     (images : SameImages (medium.may_leave was) (medium.may_leave now)) (arms : (counts_on medium now).arms ≡ (counts_on medium was).arms)
     (wrote : List ℕ → Type 0) (disk : Machine → List ℕ) (events : List Event)
@@ -408,8 +426,8 @@ module _ {D : Type 0} (medium : Medium D) (is_image : (disk : D) → medium.may_
     did =
         all_did (map (counts_on medium) handed) (DisksKeepAt medium handed old place) events ran (DisksStay medium handed now_in)
         (λ later m it.
-        keeps_stay medium is_image handed now_in later m
-        (keeps_read medium handed old fresh place was now here images arms m it.at it.keeps stayed));
+        keeps_stay medium handed now_in later m (keeps_read medium handed old fresh place was now here images arms m it.at it.keeps stayed)
+        (begins_read medium handed old fresh place was now here images arms m it.at it.keeps stayed it.begins));
     written = written;
   }
   unsaved_did T reading.Failed rose = record {

@@ -17,10 +17,11 @@ pub record DisksKeep {D : Type 0} (medium : Medium D) (handed back : List D) (m 
   pub holds : DisksHold medium handed back m
   pub counted : CountOn medium m holds.first holds.last (holds.clients ++ holds.spare)
 
--- and this is the place of the server's own
+-- and this is the place of the server's own; and they begin with the machine's list
 pub record DisksKeepAt {D : Type 0} (medium : Medium D) (handed back : List D) (place : ℕ) (m : Machine) : Type 0 where
   pub keeps : DisksKeep medium handed back m
   pub at : place ≡ place_of m.promoted
+  pub begins : ServerBegins medium m.promoted m.server.durable keeps.holds.first keeps.holds.last
 
 -- They do, but that a read of the server's own has failed since: its count of faults rose from this one.
 pub record DisksKeepUnread {D : Type 0} (medium : Medium D) (handed back : List D) (m : Machine) : Type 0 where

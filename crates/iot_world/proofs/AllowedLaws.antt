@@ -1,9 +1,9 @@
 -- Of events that are declared the next one may come, and those behind it stay declared.
 use Rattle.std.proofs.lemmas.List.{drop_more}
 use Rattle.iot_event.specs.{Declarations.ClientEventIsDeclared, declared.event.ClientEvent.ClientEvent}
-use Rattle.iot_world.proofs.Common.{Event, List, Profile, World, ap}
+use Rattle.iot_world.proofs.Common.{DeclaredOn, Event, List, Profile, World, ap}
 use Rattle.iot_world.proofs.Common.{client_count, drop, length, script_names, slice_index_or, subst, sym, ℕ, [], ◌+◌, ◌<◌, ◌∙◌, ◌∷◌, ◌≡◌}
-use Rattle.iot_world.specs.{Allowed.IsAllowed, Allowed.MayBefall, Prelude.AreDeclared, World.DeclaredOn}
+use Rattle.iot_world.specs.{Allowed.IsAllowed, Allowed.MayBefall, Prelude.AreDeclared}
 use Rattle.iot_event.specs.declared.event.ClientEvent.TheVariants as client_events
 use Rattle.iot_event.specs.declared.event.Event.TheVariants as events
 use Rattle.iot_event.specs.declared.event.Task.TheVariants as tasks

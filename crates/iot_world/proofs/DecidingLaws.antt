@@ -41,7 +41,7 @@ module _ {D : Type 0} (medium : Medium D) where
       → (is_promoted old.server ≡ false → OnOk r ((names : List (List ℕ)) (n : ℕ) (node : Node (List Commit))
       → ServerStands medium names old.server node n
       → CameIf (lists medium) (on_both medium) (is_up new.server) (post_for Promote (post_of old.server)) (words_of Promote server_name)
-      x y node)) → OnOk r (is_promoted old.server ≡ false → DecidesComeback medium Promote old new x y)
+      x y node.durable node.doubt)) → OnOk r (is_promoted old.server ≡ false → DecidesComeback medium Promote old new x y)
   decides_promoted (Err fault) old new x y by_all by_image = tt
   decides_promoted (Ok done) old new x y by_all by_image = λ own. record { by_all = by_all own; by_image = by_image own }
 

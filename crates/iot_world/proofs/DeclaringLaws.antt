@@ -1,30 +1,28 @@
 -- A new world is that of a machine that has opened, and what is declared in a world is declared in the machine.
-use Rattle.std.proofs.{Common.bytes_eq, Math.Seq.get_or-append_seam, Math.Seq.set-append_seam, Math.Seq.take-append_seam}
+use Rattle.std.proofs.Common.{bytes_eq, if◌then◌else◌}
+use Rattle.std.proofs.Math.Seq.{get_or-append_seam, set-append_seam, take-append_seam}
 use Rattle.std.proofs.lemmas.{List.Folds.find-append, Slice.Eq.bytes_eq-Decides, Slice.Zip.all_zipped_more}
-use Rattle.{iot_client.specs.Messages.nothing_held, iot_event.specs.Meanings.is_declared}
-use Rattle.{iot_exchange.proofs.FollowingLaws.follows_nothing, iot_exchange.specs.Scripts.script_of, iot_lang.specs.Code.Code}
-use Rattle.iot_laptop.specs.Laptops.{FallenStands, awake, fallen, unopened_laptop}
-use Rattle.iot_machine.proofs.{FollowsLaws.all_push, SoundLaws.sound_opening}
+use Rattle.{iot_client.specs.Messages.nothing_held, iot_event.specs.Meanings.is_declared, iot_exchange.proofs.FollowingLaws.follows_nothing}
+use Rattle.{iot_exchange.specs.Scripts.script_of, iot_lang.specs.Code.Code, iot_laptop.specs.Laptops.unopened_laptop}
+use Rattle.iot_machine.proofs.{FollowsLaws.all_push, MachinesLaws.added_at, SoundLaws.sound_opening}
 use Rattle.iot_machine.proofs.StepsLaws.{at_one, joined as one_then, nothing, says_this}
 use Rattle.iot_machine.specs.{Calls.goes_on, Events.Declares, Events.add_client, Events.client_of, Machine.first_of}
 use Rattle.iot_machine.specs.{Machine.handed, Machine.last_of, Nodes.no_counts, Nodes.unopened, Stops.OpensNode, Transcript.Opening}
-use Rattle.{iot_node.specs.Disks.IsEmpty, iot_server_node.proofs.ServersLaws.more_names}
-use Rattle.iot_standing.{proofs.ScriptsLaws.if_more, proofs.ScriptsLaws.named_more, proofs.ScriptsLaws.state_more, specs.Scripts.AreApart}
-use Rattle.{iot_standing.specs.Scripts.IsNamed, iot_standing.specs.Scripts.script_named, iot_world.proofs.BeginsLaws.begins_there}
-use Rattle.iot_world.proofs.Common.{AllByRecursion, ArePlaced, Bool, ClientStands, Commit}
-use Rattle.iot_world.proofs.Common.{Counts, Declared, DeclaredScript, Each, Err, Global, HasEnds, HavingAnswered, IsBeside, IsWorldOfSome}
-use Rattle.iot_world.proofs.Common.{KeepsBeside, KeepsCommits, KeepsDisk, KeepsTrails, Laptop, LaptopHasDisk, LeavesDisks, List}
-use Rattle.iot_world.proofs.Common.{Machine, MakesStep, Medium, None, Ok, OnOk, Opens, Refines, Result, Says, ServerBegins, ServerNode}
-use Rattle.iot_world.proofs.Common.{ServerStands, Some, StandsFor, StandsIn, StepsTo, Vec, World, ap, append-nil, arith, at_each, client_at}
-use Rattle.iot_world.proofs.Common.{client_count, client_in, counts_on, disk_in, disk_of, does, drop, event_part, false, follows_kept}
-use Rattle.iot_world.proofs.Common.{is_some, length, length-append, length-map, map, map-append, names_in, no_client, on_both, or_parts}
-use Rattle.iot_world.proofs.Common.{paired, placed, quiet, refl, rules, script_names, server_name, stamps_in, subst, suc, sym, take}
-use Rattle.iot_world.proofs.Common.{true, vec_capacity, vec_len, with_clients, with_ends, with_server, ℕ, [], ◌++◌, ◌+◌, ◌∙◌, ◌∷◌, ◌≡◌, ◌≤◌}
-use Rattle.iot_world.proofs.DisksLaws.{arms_with, clients_same, first_kept, pushed_with, server_same, unarmed_same}
+use Rattle.{iot_node.specs.Disks.IsEmpty, iot_server_node.proofs.ServersLaws.more_names, iot_standing.proofs.ScriptsLaws.if_more}
+use Rattle.iot_standing.{proofs.ScriptsLaws.named_more, proofs.ScriptsLaws.state_more, specs.Scripts.AreApart, specs.Scripts.IsNamed}
+use Rattle.{iot_standing.specs.Scripts.script_named, iot_world.proofs.BeginsLaws.begins_there, iot_world.proofs.Common.AllByRecursion}
+use Rattle.iot_world.proofs.Common.{ArePlaced, Bool, ClientStands, Counts, Declared, DeclaredOn, DeclaredScript, Each, Event, Global}
+use Rattle.iot_world.proofs.Common.{HavingAnswered, IsBeside, IsWorldOfSome, KeepsBeside, KeepsCommits, KeepsDisk, KeepsTrails, Laptop}
+use Rattle.iot_world.proofs.Common.{LaptopHasDisk, LeavesDisks, List, Machine, MakesStep, Medium, None, Opens, Refines, Result, Says}
+use Rattle.iot_world.proofs.Common.{ServerNode, ServerStands, Some, StandsFor, StandsIn, StepFrom, StepsTo, Vec, World, ap, append-nil}
+use Rattle.iot_world.proofs.Common.{arith, at_each, client_at, client_count, client_in, counts_on, disk_in, disk_of, disks_of, does}
+use Rattle.iot_world.proofs.Common.{drop, event_part, false, follows_kept, is_some, length, length-append, length-map, map, map-append}
+use Rattle.iot_world.proofs.Common.{names_in, on_both, or_parts, paired, placed, quiet, refl, rules, script_names, server_name, stamps_in}
+use Rattle.iot_world.proofs.Common.{subst, suc, sym, take, true, vec_capacity, vec_len, with_ends, ℕ, [], ◌++◌, ◌+◌, ◌∙◌, ◌∷◌, ◌≡◌, ◌≤◌}
+use Rattle.iot_world.proofs.DisksLaws.{arms_with, clients_same, ends, first_kept, pushed_with, server_same, unarmed_same}
 use Rattle.iot_world.proofs.{ListLaws.all_split, ListLaws.each_map, ListLaws.each_place_push, PlacesLaws.ServerFollows}
-use Rattle.iot_world.proofs.PlacesLaws.{ends_length, has_places, kept_server, placed_beside, places_list, server_list, server_placed}
-use Rattle.iot_world.{proofs.WorldsLaws.Any, proofs.WorldsLaws.at_part, proofs.WorldsLaws.opens_keeps, specs.Disks.AreFresh}
-use Rattle.iot_world.specs.{Disks.AreUnarmed, Prelude.client_line, World.DeclaresClient, World.GivesBack, World.SaysStarted, World.Starts}
+use Rattle.iot_world.proofs.{PlacesLaws.beside_places, PlacesLaws.ends_length, PlacesLaws.kept_server, WorldsLaws.Any, WorldsLaws.at_part}
+use Rattle.iot_world.specs.{Disks.AreFresh, Disks.AreUnarmed, Prelude.client_line, World.GivesBack, World.HasDisks, World.Starts}
 use Rattle.iot_event.specs.declared.event.Event.TheVariants as events
 use Rattle.iot_exchange.specs.Scripts as exchange
 use Rattle.iot_machine.specs.Machine as machine
@@ -34,17 +32,9 @@ use Rattle.iot_machine.specs.Machine as machine
 module _ {D : Type 0} (medium : Medium D) (scripts : List Declared) (one : Declared) where
   client_more : (laptop : Laptop D) (m : machine.Client) → ClientStands medium scripts laptop m
       → ClientStands medium (scripts ++ one ∷ []) laptop m
-  client_more laptop m (awake here) = let named = state_more scripts one m.node.durable here.named in awake (search rules)
-  client_more laptop m (fallen here) =
+  client_more laptop m here =
       let is = state_more scripts one m.node.durable here.named.is in
-      let may_be = if_more scripts one m.node.doubt here.named.may_be in
-      fallen (search rules)
-
-  -- each client's transactions still have their scripts
-  clients_more : (commits : List Commit) (laptops : List (Laptop D)) (ms : List machine.Client)
-      → Each (StandsIn medium scripts commits) laptops ms → Each (StandsIn medium (scripts ++ one ∷ []) commits) laptops ms
-  clients_more commits = each_map (StandsIn medium scripts commits) (StandsIn medium (scripts ++ one ∷ []) commits)
-      (λ laptop m it. record { client = client_more laptop m it.client; follows = it.follows })
+      let may_be = if_more scripts one m.node.doubt here.named.may_be in search rules
 
 -- ---- scripts with names of their own
 
@@ -66,15 +56,7 @@ undeclared (w ∷ ws) name none =
 
 -- the machine before anything has started, of a server whose two disks have counted this, beside eight others
 abbrev pub at_first : (first last : Counts) → List Counts → Machine
-at_first first last others = record {
-  server = unopened [] (paired first last);
-  requests = 0;
-  promoted = false;
-  beside = last.arms;
-  clients = [];
-  scripts = [];
-  spare = others;
-}
+at_first first last others = record (handed []) { server = unopened [] (paired first last); beside = last.arms; spare = others }
 
 before_is : (first last : Counts) (others : List Counts) → length others ≡ 8
     → handed (with_ends first last others) ≡ at_first first last others
@@ -88,119 +70,91 @@ before_is first last others eight =
 
 module _ {D : Type 0} (medium : Medium D) (disks : List D) (first last : D) (rest : List D) (split : disks ≡ with_ends first last rest)
     (fresh : AreFresh medium disks) where
-  pub all_fresh : AllByRecursion (IsEmpty medium) (with_ends first last rest)
-  all_fresh = subst (AllByRecursion (IsEmpty medium)) split fresh.each
-
-  pub rest_fresh : AllByRecursion (IsEmpty medium) rest × IsEmpty medium last
-  rest_fresh = all_split (IsEmpty medium) rest last all_fresh.1
+  pub each_fresh : IsEmpty medium first × AllByRecursion (IsEmpty medium) rest × IsEmpty medium last
+  each_fresh =
+      let all = rw split at fresh.each in
+      let others = all_split (IsEmpty medium) rest last all.1 in (all.0, others.0, others.1)
 
   eight_left : length rest ≡ 8
   eight_left = omega (arith, ap length split, ends_length first last rest, fresh.ten)
 
-  -- what they count
-  abbrev counts : Counts × Counts
-  counts = (counts_on medium first, counts_on medium last)
+  abbrev before : Machine
+  before = at_first (counts_on medium first) (counts_on medium last) (map (counts_on medium) rest)
 
-  pub handed_are : handed (map (counts_on medium) disks) ≡ at_first counts.0 counts.1 (map (counts_on medium) rest)
+  pub handed_are : handed (map (counts_on medium) disks) ≡ before
   handed_are =
       rw (split, map-append (counts_on medium) rest (last ∷ [])) (before_is _ _ _ (length-map rest (counts_on medium) ∙ eight_left))
 
-  -- a world of its server alone
-  pub opens : (world : World D) (was : ServerNode D) (x y : List ℕ) (on : Bool)
-      → ServerStands medium [] was (unopened [] (paired counts.0 counts.1)) 0
-      → IsBeside medium world.server false (medium.arms last)
-      → StepsTo (HavingAnswered medium [] 0) (HavingAnswered medium [] 0) (OpensNode server_name) was world.server x y on
-      → world.clients.items ≡ [] → world.scripts.items ≡ [] → world.spare.items ≡ rest
-      → vec_len world.spare + 2 ≤ vec_capacity world.spare → Opens medium disks x y world
-  opens world was x y on stands beside one clients scripts spare room =
-      let s = one.step (unopened [] (paired counts.0 counts.1)) stands in
-      let m : Machine = record (at_first counts.0 counts.1 (map (counts_on medium) rest)) { server = s.1 } in
-      let step : Opening (handed (map (counts_on medium) disks)) s.0 tt m = rw handed_are (record {
-        mid = m;
-        front = s.0;
-        rest = [];
-        answer = on;
-        first = record { inner = s.1; step = s.3; is = refl };
-        second = (refl, refl);
-        whole = sym (append-nil s.0);
-      }) in
-      record {
-        machine = m;
-        text = s.0;
-        wrote = s.2;
-        step = step;
-        stands = record {
-          stands = record {
-            server = s.4;
-            beside = beside;
-            clients_ = rw clients tt;
-            scripts = ap (λ (ss : List DeclaredScript). exchange.scripts_of ss) (sym scripts);
-            apart = λ place script at. absurd cc;
-            placed = subst ArePlaced (sym clients) (λ place laptop at. absurd cc);
-            spare = rw spare rest_fresh.0;
-            counts = ap (map (counts_on medium)) spare;
-            eight = omega (arith, ap length clients, ap length spare, eight_left);
-          };
-          sound = sound_opening (map (counts_on medium) disks) m s.0 step;
-        };
-        no_clients = ap length clients;
-        no_scripts = ap (map (λ (s : DeclaredScript). s.name)) scripts;
-        has = record {
-          server = has_places medium world.server false _ (server_placed medium world.server false _ beside);
-          clients = rw clients tt;
-          room = omega (arith, ap length clients, room);
-        };
-        first = first;
-        last = last;
-        were = split ∙ ap (λ (ds : List D). with_ends first last ds) (sym spare);
-      }
+  -- a world whose server was never started, alone over these disks, and the server after its start
+  module _ (was server : ServerNode D) (clients : Vec (Laptop D) Global) (scripts : Vec DeclaredScript Global) (spare : Vec D Global)
+      (no_clients : clients.items ≡ []) (no_scripts : scripts.items ≡ []) (others : spare.items ≡ rest)
+      (stands : ServerStands medium [] was before.server 0) (beside : IsBeside medium was false (medium.arms last))
+      (kept : KeepsBeside medium was server) where
+    abbrev opened : World D
+    opened = record { server = server; clients = clients; scripts = scripts; spare = spare }
 
-  -- in which no disk was armed
-  module _ (was now : ServerNode D) (has : disk_of was ≡ Some (placed false first last)) (kept : KeepsBeside medium was now)
-      (keeps : KeepsDisk (on_both medium) (disk_of was) (disk_of now)) where
-    abbrev pub follows : ServerFollows medium was now
-    follows = kept_server medium was now false (medium.arms last)
-        (record { first = first; last = last; has = has; beside = refl })
-        (kept false (medium.arms last) (placed_beside medium was false first last has)) keeps
-
-    abbrev ends : HasEnds disks
-    ends = record { first = first; last = last; others = rest; is = split }
-
-    pub opens_unarmed : (laptops : List (Laptop D)) (spare : List D) → laptops ≡ [] → spare ≡ rest
-        → AreUnarmed medium disks (with_server (disk_of now) (with_clients laptops spare))
-    opens_unarmed laptops spare none others = record {
-      was = ends;
-      now = record {
-        first = follows.now.placed.first;
-        last = follows.now.placed.last;
-        others = rest;
-        is = rw (none, others) (places_list medium now follows.now rest);
-      };
-      server = follows.unarmed;
-      each = unarmed_same medium rest;
+    pub opens_has : vec_len spare + 2 ≤ vec_capacity spare → HasDisks opened
+    opens_has room = record {
+      server = beside_places medium server false _ (kept false _ beside);
+      clients = rw no_clients tt;
+      room = omega (arith, ap length no_clients, room);
     }
 
-    -- the disks come back
-    pub gives_back : ((disk : D) → medium.may_leave disk (medium.reads disk)) → (back : List D) (promoted : Bool) (one other : D)
-        → disk_of now ≡ Some (placed promoted one other) → back ≡ with_ends one other rest
-        → ServerStands medium [] was (unopened [] (paired counts.0 counts.1)) 0 → KeepsCommits medium was now
-        → GivesBack medium disks back
-    gives_back is_image back promoted one other is put stands commits =
-        let begins : ServerBegins medium false [] follows.now.placed.first follows.now.placed.last =
-        begins_there medium is_image [] now follows.now (commits.keeps [] (unopened [] (paired counts.0 counts.1)) 0 stands) in
+    pub opens : (x y : List ℕ) (on : Bool)
+        → StepsTo (HavingAnswered medium [] 0) (HavingAnswered medium [] 0) (OpensNode server_name) was server x y on
+        → vec_len spare + 2 ≤ vec_capacity spare → Opens medium disks x y opened
+    opens x y on one room =
+        let s = one.step before.server stands in
+        let now : StandsFor medium opened (record before { server = s.1 }) = record {
+          server = s.4;
+          beside = kept false _ beside;
+          clients_ = rw no_clients tt;
+          scripts = ap (λ (ss : List DeclaredScript). exchange.scripts_of ss) (sym no_scripts);
+          apart = λ place script at. absurd cc;
+          placed = rw no_clients (λ place laptop at. absurd cc);
+          spare = rw others each_fresh.1;
+          counts = ap (map (counts_on medium)) others;
+          eight = omega (arith, ap length no_clients, ap length others, eight_left);
+        } in
+        let it : StepFrom (StandsFor medium) Opening before opened x y tt =
+        one_then (at_part {Q = Any} {w = opened} {a = on} machine.server s.0 s.1 s.2 s.3 tt) (quiet _ (refl, refl) now) in
+        let step : Opening (handed (map (counts_on medium) disks)) it.text tt it.next = rw handed_are it.step in
         record {
-          was = ends;
-          now = record {
-            first = follows.now.placed.first;
-            last = follows.now.placed.last;
-            others = rest;
-            is = put ∙ sym (server_list medium now promoted one other is rest) ∙ places_list medium now follows.now rest;
-          };
-          same = refl;
-          unarmed = follows.unarmed;
-          first = begins.of_first refl;
-          last = begins.of_last;
+          machine = it.next;
+          text = it.text;
+          wrote = it.wrote;
+          step = step;
+          stands = record { stands = it.stands; sound = sound_opening (map (counts_on medium) disks) it.next it.text step };
+          no_clients = ap length no_clients;
+          no_scripts = ap (map (λ (s : DeclaredScript). s.name)) no_scripts;
+          has = opens_has room;
+          first = first;
+          last = last;
+          were = split ∙ ap (λ (ds : List D). with_ends first last ds) (sym others);
         }
+
+    -- in which no disk was armed
+    module _ (has : disk_of was ≡ Some (placed false first last)) (keeps : KeepsDisk (on_both medium) (disk_of was) (disk_of server)) where
+      abbrev follows : ServerFollows medium was server
+      follows = kept_server medium was server false (medium.arms last)
+          (record { first = first; last = last; has = has; beside = refl }) (kept false _ beside) keeps
+
+      abbrev pub opens_unarmed : AreUnarmed medium disks (disks_of opened)
+      opens_unarmed = record {
+        was = record { first = first; last = last; others = rest; is = split };
+        now = ends medium opened follows.now;
+        server = follows.unarmed;
+        each = rw (no_clients, others) (unarmed_same medium rest);
+      }
+
+      -- the disks come back
+      pub gives_back : ((disk : D) → medium.may_leave disk (medium.reads disk)) → KeepsCommits medium was server
+          → GivesBack medium disks (disks_of opened)
+      gives_back is_image commits = record {
+        unarmed = opens_unarmed;
+        same = rw (no_clients, others) refl;
+        begins = begins_there medium is_image [] server follows.now (commits.keeps [] before.server 0 stands);
+      }
 
 -- ---- a client or a script
 
@@ -213,9 +167,8 @@ module _ {D : Type 0} (medium : Medium D) (name : List ℕ) (old : World D) (cli
   one_more : length clients.items ≡ length old.clients.items + 1
   one_more = ap length push ∙ length-append old.clients.items (next ∷ [])
 
-  pub joins : {T E : Type 0} (r : Result T E) → OnOk r (DeclaresClient old joined)
-  joins (Ok done) = record { clients = one_more; scripts = refl }
-  joins (Err fault) = tt
+  pub joins : (later : List Event) → DeclaredOn (events.Client name ∷ later) old → DeclaredOn later joined
+  joins later declared = rw one_more declared.1
 
   -- its disk is one of the world's still
   pub joined_leaves : {T E : Type 0} (r : Result T E) → disk_in was ≡ Some disk → KeepsDisk medium (disk_in was) (disk_in next)
@@ -228,7 +181,8 @@ module _ {D : Type 0} (medium : Medium D) (name : List ℕ) (old : World D) (cli
         clients = rw push (all_push LaptopHasDisk old.clients.items next (ap is_some keeps.new_has) has.clients);
         room = omega (arith, one_more, len, capacity, has.room);
       };
-      spare = record { front = disk ∷ []; split = spare };
+      taken = disk ∷ [];
+      spare = spare;
     };
     same = arms_with medium old joined (server_same medium old some)
         (rw (push, spare, pushed_with old.clients.items next rest.items)
@@ -239,7 +193,7 @@ module _ {D : Type 0} (medium : Medium D) (name : List ℕ) (old : World D) (cli
   -- ---- the machine declares it
 
   module _ (knows : was.place ≡ client_count old) (stays : next.place ≡ was.place)
-      (unopened : (scripts : List Declared) → FallenStands medium scripts was (unopened_laptop name (counts_on medium disk)))
+      (unopened : (scripts : List Declared) → ClientStands medium scripts was (unopened_laptop name (counts_on medium disk)))
       (empty : stamps_in was ≡ nothing_held) where
     module _ (m : Machine) (here : StandsFor medium old m) where
       counts_are : counts_on medium disk ∷ map (counts_on medium) rest.items ≡ m.spare
@@ -264,19 +218,19 @@ module _ {D : Type 0} (medium : Medium D) (name : List ℕ) (old : World D) (cli
     declares x y starts = at_each (λ m here.
         let c : ℕ = length m.clients in
         let m' : Machine = add_client name m in
-        let is : client_in m' c ≡ client_of name m = get_or-append_seam m.clients (client_of name m) [] no_client in
+        let is = added_at name m in
         let called = ap (λ (k : machine.Client). k.name) is in
-        let there : ClientStands medium m.scripts was (client_in m' c) = rw (is, ← counts_are m here) (fallen (unopened m.scripts)) in
+        let there : ClientStands medium m.scripts was (client_in m' c) = rw (is, ← counts_are m here) (unopened m.scripts) in
         let s = (starts.opens m.scripts).step (client_in m' c) there in
         let now : StandsFor medium joined ((client_at c).set s.1 m') =
         rw (set-append_seam m.clients (client_of name m) [] s.1)
-        (stands m here s.1 s.4 ((opens_keeps name).at (client_in m' c) s.1 s.0 starts.on called s.3) starts.trails) in
+        (stands m here s.1 s.4 (ap (λ (k : machine.Client). k.name) s.3.is ∙ called) starts.trails) in
         one_then (quiet {P = Any} {v = old} m' (refl, refl, refl) tt)
         (one_then (at_part {Q = StandsFor medium} {w = joined} (client_at c) s.0 s.1 s.2
         (record { inner = s.3.inner; step = rw called at s.3.step; is = s.3.is }) now)
         (at_one (then_says starts.on starts.says) now)))
       where
-        then_says : (on : Bool) → SaysStarted on name starts.between y
+        then_says : (on : Bool) → y ≡ (if on then starts.between ++ client_line name else starts.between)
             → Refines (StandsFor medium) (goes_on (Says (λ _. client_line name)) on) joined joined starts.between y tt
         then_says true is = says_this is
         then_says false is = rw is nothing
@@ -288,7 +242,10 @@ module _ {D : Type 0} (medium : Medium D) where
       → is_declared name (script_names old) ≡ false → scripts.items ≡ old.scripts.items ++ record { name = name; script = code } ∷ []
       → MakesStep medium (event_part (events.Script name code)) old (record old { scripts = scripts }) x x tt
   declares_script name code old scripts x none adds = does (λ m here.
-      let both = clients_more medium m.scripts one m.server.durable old.clients.items m.clients here.clients_ in
+      let both =
+      each_map (StandsIn medium m.scripts m.server.durable) (StandsIn medium (m.scripts ++ one ∷ []) m.server.durable)
+      (λ laptop k it. record { client = client_more medium m.scripts one laptop k it.client; follows = it.follows })
+      old.clients.items m.clients here.clients_ in
       let all : m.scripts ++ one ∷ [] ≡ exchange.scripts_of scripts.items = rw (here.scripts, adds, map-append) in
       let apart = apart_more m.scripts one here.apart (ap (script_named name) here.scripts ∙ undeclared old.scripts.items name none) in
       (sym (append-nil x), search rules))

@@ -1,30 +1,19 @@
 -- The disks of a world, from one call to the next.
-use Rattle.{std.proofs.Common.OnOk, std.proofs.Common.append_assoc, iot_machine.proofs.FollowsLaws.all_set}
-use Rattle.iot_world.proofs.Common.{AllByRecursion, Bool, Call, Each, Err, Global, HasEnds, HasPlaces, IfErr, IsBeside}
+use Rattle.{std.proofs.Common.OnOk, iot_machine.proofs.FollowsLaws.all_set}
+use Rattle.iot_world.proofs.Common.{AllByRecursion, Bool, Call, Each, Err, Global, HasPlaces, IfErr}
 use Rattle.iot_world.proofs.Common.{IsWorldOfSome, KeepsBeside, KeepsCommits, KeepsDisk, KeepsDisks, KeepsNode, Laptop, LaptopHasDisk}
 use Rattle.iot_world.proofs.Common.{LeavesDisks, List, Machine, MakesStep, Medium, None, Ok, Option, Result, SameArms, ServerNode, Some}
 use Rattle.iot_world.proofs.Common.{StandsFor, Vec, World, ap, arith, commits_same, disk_in, disk_of, disks_of, false, inl, is_promoted}
 use Rattle.iot_world.proofs.Common.{is_some, length, length-append, length-set, on_both, refl, same_Some, slice_get, slice_index_or}
 use Rattle.iot_world.proofs.Common.{slice_set, suc, sym, true, with_clients, with_first, zero, ℕ, [], ◌++◌, ◌+◌, ◌<◌, ◌∙◌, ◌∷◌, ◌≡◌, ◌≤◌}
 use Rattle.iot_world.proofs.ListLaws.{all_split, looked_up}
-use Rattle.iot_world.proofs.PlacesLaws.{ServerFollows, has_places, kept_server, places_list, promoted_is, same_server, server_placed}
-use Rattle.iot_world.specs.{Disks.IsUnarmed, World.AreLast, World.UnlessArmed}
+use Rattle.iot_world.proofs.PlacesLaws.{ServerFollows, beside_places, kept_server, places_list, promoted_is, same_server, server_placed}
+use Rattle.iot_world.specs.{Disks.HasEnds, Disks.IsUnarmed, World.UnlessArmed}
 
 -- what is so of any answer is so unless a disk was armed
 unless_armed : {T E : Type 0} (arms : Bool) (r : Result T E) (P : Type 0) → P → UnlessArmed arms r P
 unless_armed true (Ok done) P p = tt
 unless_armed arms r P p = p
-
--- ---- spare disks
-
-pub last_here : {D : Type 0} (disks : List D) → AreLast disks disks
-last_here disks = record { front = []; split = refl }
-
-pub last_then : {D : Type 0} (xs ys zs : List D) → AreLast ys zs → AreLast xs ys → AreLast xs zs
-last_then xs ys zs one other = record {
-  front = one.front ++ other.front;
-  split = one.split ∙ ap (λ l. one.front ++ l) other.split ∙ sym (append_assoc one.front other.front xs);
-}
 
 -- one more client at the end is its disk before the spare ones
 pub pushed_with : {D : Type 0} (laptops : List (Laptop D)) (laptop : Laptop D) (spare : List D)
@@ -71,10 +60,10 @@ module _ {D : Type 0} (medium : Medium D) where
     pub commits : KeepsCommits medium old new
     pub stays : turns ≡ false → is_promoted new ≡ is_promoted old
 
-  abbrev ends : (world : World D) → HasPlaces world.server → HasEnds (disks_of world)
+  abbrev pub ends : (world : World D) → HasPlaces world.server → HasEnds (disks_of world)
   ends world it = record {
-    first = it.placed.first;
-    last = it.placed.last;
+    first = it.first;
+    last = it.last;
     others = with_clients world.clients.items world.spare.items;
     is = places_list medium world.server it (with_clients world.clients.items world.spare.items);
   }
@@ -96,23 +85,18 @@ module _ {D : Type 0} (medium : Medium D) where
     stays = keeps.stays;
   }
 
+  -- the server of a machine's world has its disks in their places
   pub stands_placed : (world : World D) (m : Machine) → StandsFor medium world m → HasPlaces world.server
-  stands_placed world m here =
-      has_places medium world.server m.promoted m.beside (server_placed medium world.server m.promoted m.beside here.beside)
+  stands_placed world m here = beside_places medium _ _ _ here.beside
 
   module _ (old : World D) (some : IsWorldOfSome medium old) where
-    abbrev m : Machine
-    m = some.machine
-
-    abbrev beside : IsBeside medium old.server m.promoted m.beside
-    beside = some.stands.stands.beside
-
     -- the server was asked something that promotes nothing
-    pub server_keeps : (server : ServerNode D) → KeepsBeside medium old.server server
+    pub server_keeps : {turns : Bool} (server : ServerNode D) → KeepsBeside medium old.server server
         → KeepsDisk (on_both medium) (disk_of old.server) (disk_of server) → KeepsCommits medium old.server server
-        → ServerKeeps false old.server server
+        → ServerKeeps turns old.server server
     server_keeps server kept keeps commits =
-        let still = kept m.promoted m.beside beside in
+        let beside = some.stands.stands.beside in
+        let still = kept _ _ beside in
         record {
           follows = kept_server medium old.server server _ _ (server_placed medium old.server _ _ beside) still keeps;
           commits = commits;
@@ -122,7 +106,7 @@ module _ {D : Type 0} (medium : Medium D) where
     -- or nothing
     pub server_same : {turns : Bool} → ServerKeeps turns old.server old.server
     server_same = record {
-      follows = same_server medium old.server (stands_placed old m some.stands.stands);
+      follows = same_server medium old.server (beside_places medium _ _ _ some.stands.stands.beside);
       commits = commits_same medium old.server old.server refl;
       stays = λ no. refl;
     }
@@ -136,16 +120,16 @@ module _ {D : Type 0} (medium : Medium D) where
     has_still : HasPlaces new.server → KeepsDisks old new
     has_still there = record {
       has = λ had. record { server = there; clients = have had.clients; room = rw (many, spare) had.room };
-      spare = rw spare (last_here old.spare.items);
+      taken = [];
+      spare = rw spare refl;
     }
 
     leaves : {T E : Type 0} {arms turns : Bool} {joins : ℕ} (r : Result T E) → ServerKeeps turns old.server new.server
         → Each (IsUnarmed medium) (with_clients old.clients.items old.spare.items) (with_clients new.clients.items old.spare.items)
         → LeavesDisks medium arms joins turns r old new
-    leaves {arms = arms} {turns} {joins} r keeps between = record {
+    leaves {arms = arms} r keeps between = record {
       kept = has_still keeps.follows.now;
-      same = unless_armed arms r _
-          (arms_with {joins = joins} {turns = turns} old new keeps (rw spare between) (rw spare (omega arith)));
+      same = unless_armed arms r _ (arms_with old new keeps (rw spare between) (rw spare (omega arith)));
     }
 
   -- another client stands at a place, and the server promoted nothing
@@ -171,8 +155,8 @@ module _ {D : Type 0} (medium : Medium D) where
 
   -- only the server has changed
   module _ (old : World D) (server : ServerNode D) where
-    pub server_leaves : {T E : Type 0} {arms turns : Bool} (r : Result T E) → ServerKeeps turns old.server server
-        → LeavesDisks medium arms 0 turns r old (record old { server = server })
+    pub server_leaves : {T E : Type 0} {arms turns : Bool} {joins : ℕ} (r : Result T E) → ServerKeeps turns old.server server
+        → LeavesDisks medium arms joins turns r old (record old { server = server })
     server_leaves r keeps = leaves old _ refl refl (λ had. had) r keeps (unarmed_same _)
 
     -- it has armed a disk, unless there was a fault
@@ -181,7 +165,7 @@ module _ {D : Type 0} (medium : Medium D) where
         → LeavesDisks medium true 0 false r old (record old { server = server })
     armed_leaves (Ok done) call x y a some step same =
         let it = step.step some.machine some.stands.stands in
-        record { kept = has_still old _ refl refl (λ had. had) (stands_placed _ it.1 it.4); same = tt }
+        record { kept = has_still old _ refl refl (λ had. had) (beside_places medium _ _ _ it.4.beside); same = tt }
     armed_leaves (Err fault) call x y a some step same = server_leaves (Err fault) (rw same (server_same old some))
 
   -- nothing was done to a node

@@ -1,23 +1,22 @@
 -- What the disks that a world gives back hold and count: the first and the last have the list, the next what clients keep, and the others
 -- are spare.
 use Rattle.{iot_disk.specs.Disk.Storing, iot_judging.specs.Records.IsImage, iot_judging.specs.Records.LacksCommit}
-use Rattle.{iot_kept.specs.Standing.StandFor, iot_kept.specs.States.Transaction, iot_laptop.proofs.NodesLaws.node_stands}
+use Rattle.iot_kept.specs.{Standing.StandFor, States.Transaction}
 use Rattle.{iot_laptop.proofs.RestartLaws.keeps_any, iot_laptop.proofs.SeatsLaws.seat_images, iot_machine.specs.Events.no_text}
 use Rattle.iot_node.{proofs.PostsLaws.lasts_in, specs.Disks.CountsOn, specs.Keeping.Keeping, specs.Posts.HoldsEither, specs.Posts.disk_of}
-use Rattle.iot_server_node.proofs.{BeginningLaws.image_goes_on, BeginningLaws.own_goes_on, BeginningLaws.stands_go_on, ServersLaws.lasts}
-use Rattle.iot_server_node.specs.Disks.{IsPlaced, MayLeave, own_of}
+use Rattle.iot_server_node.{proofs.BeginningLaws.stands_go_on, proofs.ServersLaws.lasts, specs.Disks.MayLeave, specs.Disks.own_of}
 use Rattle.iot_standing.specs.Kept.{RunKept, StateKept}
-use Rattle.iot_world.proofs.BeginsLaws.{begins_there, last_begins, lone, pair_of, pairs_begin}
-use Rattle.iot_world.proofs.Common.{Between, Bool, Call, Client, ClientStands, ClientState, Commit, Counts, Declared, Down}
-use Rattle.iot_world.proofs.Common.{Each, Err, IfErr, Image, IsClientImage, IsOneMoreIfAny, KeepsDisks, KeepsNode, Laptop, List, Machine}
+use Rattle.iot_world.proofs.BeginsLaws.{begins_there, lone, pair_of}
+use Rattle.iot_world.proofs.Common.{Between, Bool, Call, Client, ClientStands, ClientState, Commit, Counts}
+use Rattle.iot_world.proofs.Common.{Declared, Down, Each, Err, IfErr, Image, IsClientImage, KeepsDisks, KeepsNode, Laptop, List, Machine}
 use Rattle.iot_world.proofs.Common.{Medium, Node, None, Ok, OnOk, Opens, Option, Post, PostStands, Refines, Result, SameArms, ServerBegins}
 use Rattle.iot_world.proofs.Common.{Some, StandsAnyhow, StandsFor, StandsIn, State, Up, World, ap, arith, counts_on, disk_in, disks_of}
 use Rattle.iot_world.proofs.Common.{false, inl, inr, is_some, kept_text, length, length-append, length-map, lists, map, map-append}
 use Rattle.iot_world.proofs.Common.{names_in, next, on_both, or_parts, other_of, paired, placed, queue_are, refl, same_Some, seating}
 use Rattle.iot_world.proofs.Common.{subst, sym, true, with_clients, with_ends, with_first, ℕ, [], ◌++◌, ◌+◌, ◌||◌, ◌∙◌, ◌∷◌, ◌≡◌, ◌⊎◌}
-use Rattle.iot_world.proofs.ListLaws.{each_length, each_map, each_same_as}
-use Rattle.iot_world.proofs.PlacesLaws.{ServerPlaced, ends_as, has_places, places_list, promoted_at, promoted_is, server_list}
-use Rattle.iot_world.{proofs.PlacesLaws.server_placed, proofs.WorldsLaws.same_length, specs.Disks.CountOn}
+use Rattle.iot_world.proofs.{ListLaws.each_length, PlacesLaws.ServerPlaced}
+use Rattle.iot_world.proofs.PlacesLaws.{ends_as, has_places, places_list, promoted_at, promoted_is, server_list, server_placed}
+use Rattle.iot_world.{proofs.WorldsLaws.same_length, specs.Disks.CountOn}
 use Rattle.iot_world.specs.Holding.{DisksHold, Holds, HoldsServer, IsKept, IsListed, KeepsClient, running_kept, state_kept}
 use Rattle.iot_world.specs.Prelude.{true}
 use Rattle.iot_machine.specs.Machine as machine
@@ -85,10 +84,10 @@ in_doubt : {A S : Type 0} {T : S → Type 0} {after : S} → A ⊎ ((other : S) 
 in_doubt (inl it) = inl it
 in_doubt {T} {after} (inr it) = inr (subst T (sym (same_Some after it.0 it.1)) it.2)
 
-module _ {K S D I : Type 0} (keeping : Keeping K S D I) (medium : Storing D I) where
+module _ {K S D I : Type 0} {disks : K → D} (keeping : Keeping K S D I disks) (medium : Storing D I) where
   -- it has counted what its disk has
   counted : (says : S → S → List ℕ) (post : Post K D) (node : Node S) → PostStands keeping medium says post node
-      → CountsOn medium (disk_of keeping.disk post) node.counts
+      → CountsOn medium (disk_of disks post) node.counts
   counted says (Up keeper) node here = ap (λ (c : Counts). Some c) here.counts
   counted says (Down fallen) node here = ap (λ (c : Counts). Some c) here.counts
   counted says Between node here = absurd here
@@ -105,7 +104,7 @@ module _ {D : Type 0} (medium : Medium D) where
 
   -- the images of its disk are what it keeps, or what is in doubt
   holds_client : (place count : ℕ) (node : Node ClientState) (images : List ℕ → Type 0) (doubt : Option ClientState)
-      → ((image : List ℕ) → images image → HoldsEither (seating medium place) medium count (record node { doubt = doubt }) image)
+      → ((image : List ℕ) → images image → HoldsEither (seating medium place) medium count node.durable doubt image)
       → Holds IsKept images node.durable doubt
   holds_client place count node images None each = λ image left. is_kept node.durable image count (settled (each image left))
   holds_client place count node images (Some after) each = λ image left. elim (in_doubt (each image left)) [
@@ -116,7 +115,7 @@ module _ {D : Type 0} (medium : Medium D) where
   client_holds : (scripts : List Declared) (laptop : Laptop D) (m : machine.Client) → ClientStands medium scripts laptop m
       → (disk : D) × (disk_in laptop ≡ Some disk) × KeepsClient medium disk m × (counts_on medium disk ≡ m.node.counts)
   client_holds scripts laptop m here =
-      let stands = node_stands medium scripts laptop m here in
+      let stands = here.node in
       let seats = seating medium laptop.place in
       let it =
       lasts_in seats medium no_text (λ seated n m here. seat_images medium laptop.place n seated m here) laptop.post m.node stands in (
@@ -147,7 +146,7 @@ module _ {D : Type 0} (medium : Medium D) where
   module _ (is_image : (disk : D) → medium.may_leave disk (medium.reads disk)) (count : ℕ) (node : Node (List Commit)) where
     -- an image has the list, or is in the midst of the commit in doubt
     abbrev Either : Option (List Commit) → Image → Type 0
-    Either doubt = HoldsEither (lists medium) (on_both medium) count (record node { doubt = doubt })
+    Either doubt = HoldsEither (lists medium) (on_both medium) count node.durable doubt
 
     -- of two, if the first has a commit more, the second has it, too, or lacks it
     hold_server : (promoted : Bool) (first last : D) (doubt : Option (List Commit))
@@ -179,15 +178,14 @@ module _ {D : Type 0} (medium : Medium D) where
 
   -- ---- all of them
 
-  -- a client's disk, with what it has counted
-  abbrev CountsClient : D → machine.Client → Type 0
-  CountsClient disk m = KeepsClient medium disk m × (counts_on medium disk ≡ m.node.counts)
-
+  -- the clients' disks, with what they have counted
   clients_hold : (scripts : List Declared) (commits : List Commit) (laptops : List (Laptop D)) (ms : List machine.Client)
-      → Each (StandsIn medium scripts commits) laptops ms → Each CountsClient (with_clients laptops []) ms
-  clients_hold scripts commits [] [] all = tt
+      → Each (StandsIn medium scripts commits) laptops ms → Each (KeepsClient medium) (with_clients laptops []) ms
+      × (map (counts_on medium) (with_clients laptops []) ≡ map (λ (k : machine.Client). k.node.counts) ms)
+  clients_hold scripts commits [] [] all = (tt, refl)
   clients_hold scripts commits (laptop ∷ laptops) (m ∷ ms) all =
-      let one = client_holds scripts laptop m all.0.client in rw one.1 ((one.2, one.3), clients_hold scripts commits laptops ms all.1)
+      let one = client_holds scripts laptop m all.0.client in
+      let rest = clients_hold scripts commits laptops ms all.1 in rw one.1 ((one.2, rest.0), λ i. one.3 i ∷ rest.1 i)
   clients_hold scripts commits laptops ms all = absurd all
 
   module _ (world : World D) (m : Machine) (here : StandsFor medium world m) where
@@ -202,27 +200,31 @@ module _ {D : Type 0} (medium : Medium D) where
         let same : it.disk ≡ placed m.promoted two.first two.last = same_Some _ _ (sym it.has ∙ two.has) in
         hold_server is_image it.count m.server m.promoted two.first two.last m.server.doubt (λ image left. it.each.each _ (rw same left))
 
-    -- and have counted this
-    both_counted : m.server.counts
-        ≡ paired (counts_on medium (own_of m.promoted two.first two.last)) (counts_on medium (other_of m.promoted two.first two.last))
-    both_counted =
-        let own = counted (lists medium) (on_both medium) (kept_text (names_in m)) world.server.post m.server here.server.post in
-        sym (same_Some _ _ (rw two.has at own)) ∙ counts_placed m.promoted two.first two.last
-
     abbrev theirs : List D
     theirs = with_clients world.clients.items []
 
-    held : Each CountsClient theirs m.clients
+    held : Each (KeepsClient medium) theirs m.clients
+        × (map (counts_on medium) theirs ≡ map (λ (k : machine.Client). k.node.counts) m.clients)
     held = clients_hold m.scripts m.server.durable world.clients.items m.clients here.clients_
 
     -- they have counted what the machine's disks have
     pub disks_count : CountOn medium m two.first two.last (theirs ++ world.spare.items)
     disks_count =
-        let clients = each_same_as CountsClient (counts_on medium) (λ k. k.node.counts) (λ disk k it. it.1) theirs m.clients held in
+        let own = counted (lists medium) (on_both medium) (kept_text (names_in m)) world.server.post m.server here.server.post in
+        let both = sym (same_Some _ _ (rw two.has at own)) ∙ counts_placed m.promoted two.first two.last in
         record {
-          server = record { both = both_counted; beside = sym two.beside };
-          between = map-append (counts_on medium) theirs world.spare.items ∙ (λ i. clients i ++ here.counts i);
+          server = record { both = both; beside = sym two.beside };
+          between = map-append (counts_on medium) theirs world.spare.items ∙ (λ i. held.1 i ++ here.counts i);
         }
+
+  -- and each image of the server's begins with the machine's list
+  pub world_begins : ((disk : D) → medium.may_leave disk (medium.reads disk)) → (world : World D) (m : Machine)
+      (here : StandsFor medium world m)
+      → ServerBegins medium m.promoted m.server.durable (placed_in medium world m here).first (placed_in medium world m here).last
+  world_begins is_image world m here =
+      begins_there medium is_image m.server.durable world.server
+      (has_places medium world.server m.promoted m.beside (placed_in medium world m here))
+      (stands_go_on medium (names_in m) world.server m.server m.requests here.server)
 
   -- each disk holds what its node keeps, and those that no client has are as they were handed in
   module _ (is_image : (disk : D) → medium.may_leave disk (medium.reads disk)) (disks : List D) (before world : World D) (m : Machine)
@@ -236,16 +238,16 @@ module _ {D : Type 0} (medium : Medium D) where
       is = used_first medium world m here;
       list = server_held world m here is_image;
       longer = here.server.known.longer;
-      each = each_map CountsClient (KeepsClient medium) (λ disk k it. it.0) (theirs world m here) m.clients (held world m here);
+      each = (held world m here).0;
       first_handed = opens.first;
-      front = same.spare.front;
+      front = same.taken;
       last_handed = opens.last;
-      was = opens.were ∙ ap (λ (ds : List D). with_ends opens.first opens.last ds) same.spare.split;
+      was = opens.were ∙ ap (λ (ds : List D). with_ends opens.first opens.last ds) same.spare;
       aligned =
-          let many = each_length CountsClient (theirs world m here) m.clients (held world m here) in
-          let long = length-append same.spare.front world.spare.items in
+          let many = each_length (KeepsClient medium) (theirs world m here) m.clients (held world m here).0 in
+          let long = length-append same.taken world.spare.items in
           let own = same_length medium world m here in
-          omega (arith, here.eight, opens.stands.stands.eight, opens.no_clients, ap length same.spare.split);
+          omega (arith, here.eight, opens.stands.stands.eight, opens.no_clients, ap length same.spare);
     }
 
     -- and has counted that
@@ -253,66 +255,28 @@ module _ {D : Type 0} (medium : Medium D) where
     unfolding disks_hold
     hold_count = disks_count world m here
 
--- ---- what each image of the server's disks begins with
+    pub hold_begins : ServerBegins medium m.promoted m.server.durable disks_hold.first disks_hold.last
+    unfolding disks_hold
+    hold_begins = world_begins is_image world m here
 
-module _ {D : Type 0} (medium : Medium D) (is_image : (disk : D) → medium.may_leave disk (medium.reads disk)) where
-  -- with the machine's list
-  pub world_begins : (world : World D) (m : Machine) (here : StandsFor medium world m)
-      → ServerBegins medium m.promoted m.server.durable (placed_in medium world m here).first (placed_in medium world m here).last
-  world_begins world m here =
-      begins_there medium is_image m.server.durable world.server
-      (has_places medium world.server m.promoted m.beside (placed_in medium world m here))
-      (stands_go_on medium (names_in m) world.server m.server m.requests here.server)
+-- ---- if memory ran out in an event, which may have given the first disk up
 
-  -- still, if memory ran out in an event, which may have given the first disk up
-  module _ (old new : World D) (m : Machine) (joins : ℕ) (turns : Bool) (here : StandsFor medium old m)
-      (arms : SameArms medium joins turns old new) where
-    abbrev spot : IsPlaced arms.places.disks
-    spot = arms.places.placed
-
-    -- at whatever ends its disks have
-    pub still_begins_at : (first last : D) (others : List D) → disks_of new ≡ with_ends first last others
-        → ServerBegins medium (m.promoted || turns) m.server.durable first last
-    still_begins_at first last others is =
-        let begins = begins_there medium is_image m.server.durable new.server arms.places
-        (arms.commits.keeps (names_in m) m.server m.requests here.server) in
-        ends_as (λ (one other : D) (xs : List D). ServerBegins medium (m.promoted || turns) m.server.durable one other)
-        spot.first spot.last first last (with_clients new.clients.items new.spare.items) others
-        (sym (places_list medium new.server arms.places (with_clients new.clients.items new.spare.items)) ∙ is) (record {
-          of_last = begins.of_last;
-          of_first = λ none.
-              let both = or_parts m.promoted turns none in
-              begins.of_first
-              (sym (promoted_at medium new.server arms.places)
-              ∙ arms.stays both.1 ∙ promoted_is medium old.server m.promoted m.beside here.beside ∙ both.0);
-        })
-
-  -- so it is of a list that the images hold
-  module _ (commits : List Commit) where
-    server_begins : (promoted : Bool) (first last : D) (doubt : Option (List Commit)) → IsOneMoreIfAny commits doubt
-        → HoldsServer promoted (medium.may_leave first) (medium.may_leave last) commits doubt
-        → ServerBegins medium promoted commits first last
-    server_begins true first last None longer holds =
-        last_begins medium is_image commits first last (λ image there. own_goes_on image (length commits) commits (holds image there))
-    server_begins true first last (Some after) longer holds =
-        last_begins medium is_image commits first last (λ image there. elim (holds image there) [
-          | inl is ↦ own_goes_on image (length commits) commits is
-          | inr is ↦ image_goes_on image (length after) commits after longer is
-        ])
-    server_begins false first last None longer holds = pairs_begin medium is_image commits first last (λ one other there here.
-        (own_goes_on one (length commits) commits (holds.0 one there), own_goes_on other (length commits) commits (holds.1 other here)))
-    server_begins false first last (Some after) longer holds =
-        pairs_begin medium is_image commits first last (λ one other there here. elim (holds one other there here) [
-          | inl both ↦ (own_goes_on one (length commits) commits both.0, own_goes_on other (length commits) commits both.1)
-          | inr it ↦ (
-            image_goes_on one (length after) commits after longer it.first,
-            elim it.second [
-              | inl has ↦ image_goes_on other (length after) commits after longer has
-              | inr lacks ↦ own_goes_on other (length commits) commits lacks.image
-            ],
-          )
-        ])
-
-  pub held_begins : (handed back : List D) (m : Machine) (held : DisksHold medium handed back m)
-      → ServerBegins medium m.promoted m.server.durable held.first held.last
-  held_begins handed back m held = server_begins m.server.durable m.promoted held.first held.last m.server.doubt held.longer held.list
+module _ {D : Type 0} (medium : Medium D) (is_image : (disk : D) → medium.may_leave disk (medium.reads disk)) (old new : World D)
+    (m : Machine) (joins : ℕ) (turns : Bool) (here : StandsFor medium old m) (arms : SameArms medium joins turns old new) where
+  -- at whatever ends its disks have
+  pub still_begins_at : (first last : D) (others : List D) → disks_of new ≡ with_ends first last others
+      → ServerBegins medium (m.promoted || turns) m.server.durable first last
+  still_begins_at first last others is =
+      let between = with_clients new.clients.items new.spare.items in
+      let begins = begins_there medium is_image m.server.durable new.server arms.places
+      (arms.commits.keeps (names_in m) m.server m.requests here.server) in
+      ends_as (λ (one other : D) (xs : List D). ServerBegins medium (m.promoted || turns) m.server.durable one other)
+      arms.places.first arms.places.last first last between others
+      (sym (places_list medium new.server arms.places between) ∙ is) (record {
+        of_last = begins.of_last;
+        of_first = λ none.
+            let both = or_parts m.promoted turns none in
+            begins.of_first
+            (sym (promoted_at medium new.server arms.places)
+            ∙ arms.stays both.1 ∙ promoted_is medium old.server m.promoted m.beside here.beside ∙ both.0);
+      })

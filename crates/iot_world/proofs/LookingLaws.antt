@@ -3,19 +3,20 @@ use Rattle.std.proofs.lemmas.List.{map_more, take_all, Elements.All-from_recursi
 use Rattle.{std.specs.Prelude.IfSome, iot_client.specs.Ties.disk_of as client_disk}
 use Rattle.{iot_client.specs.declared.client.Client.Client as LiveClient, iot_event.specs.declared.event.NodeEvent.TheVariants.Show}
 use Rattle.iot_inspect.specs.{Shown.named, Shown.shown, Texts.AreOf, Texts.tree_text, Values.live_data, declared.snapshot.Json.Json}
-use Rattle.iot_laptop.proofs.NodesLaws.{awake_stands, fallen_stands, lent_at, same_name}
-use Rattle.iot_laptop.specs.Laptops.{IsLent, IsView, LaptopStands, disk_by, is_alive, lent_by, live_in, state_in}
+use Rattle.iot_laptop.proofs.NodesLaws.{lent_at}
+use Rattle.iot_laptop.specs.Laptops.{IsView, disk_by, is_alive, lent_by, live_in, state_in}
 use Rattle.iot_machine.{proofs.StepsLaws.asks, proofs.StepsLaws.bind, specs.Clients.view, specs.Events.Logs}
 use Rattle.iot_machine.specs.{Json.client_data, Recorded.label_of, Recorded.labels_of, Sound.IsListed, Stops.Shows, Texts.log_text}
 use Rattle.{iot_queue.specs.declared.items.Item.Item, iot_server.specs.Servers.state_of, iot_server.specs.declared.server.Server.Server}
-use Rattle.{iot_server_node.specs.Servers.IsServerOf, iot_standing.proofs.StatesLaws.view_is, iot_tree.specs.Tree.Nodes}
-use Rattle.{iot_tree.specs.declared.labels.Label.Label, iot_world.proofs.Common.AllByRecursion, iot_world.proofs.Common.Client}
-use Rattle.iot_world.proofs.Common.{ClientIs, ClientStands, Commit, Declared, IsWorldOfSome, Laptop, List, Machine, MakesStep, Medium}
-use Rattle.iot_world.proofs.Common.{None, Option, Post, Refines, Says, Seated, Some, StandsFor, StandsIn, Up, World, ap, arith, client_in}
-use Rattle.iot_world.proofs.Common.{codes, disk_in, either, false, inl, inr, length, length-map, line, names_in, no_client, node_part}
+use Rattle.{iot_server_node.specs.Servers.IsServerOf, iot_standing.proofs.StatesLaws.view_is}
+use Rattle.iot_tree.specs.{Tree.Nodes, declared.labels.Label.Label}
+use Rattle.iot_world.proofs.Common.{AllByRecursion, Client, ClientIs, ClientStands}
+use Rattle.iot_world.proofs.Common.{Commit, Declared, IsWorldOfSome, Laptop, List, Machine, MakesStep, Medium, None, Option, Post}
+use Rattle.iot_world.proofs.Common.{Refines, Says, Seated, Some, StandsFor, StandsIn, Up, World, ap, arith, awake_stands, client_in, codes}
+use Rattle.iot_world.proofs.Common.{disk_in, either, false, inl, inr, length, length-map, line, names_in, no_client, node_is, node_part}
 use Rattle.iot_world.proofs.Common.{queue_are, refl, same_Some, says, slice_get, sym, take, true, ℕ, [], ◌++◌, ◌+◌, ◌<◌, ◌∙◌, ◌∷◌, ◌≡◌, ◌≤◌}
 use Rattle.iot_world.proofs.{ListLaws.each_same_as, WorldsLaws.client_here, WorldsLaws.inside_here, WorldsLaws.same_length}
-use Rattle.iot_world.specs.{Looks.AddsTold, Looks.HasTold, Looks.Tells, Looks.client_names, Prelude.Bool, World.IsReady, World.LendsClient}
+use Rattle.iot_world.specs.{Looks.HasTold, Looks.Tells, Looks.client_names, Prelude.Bool, World.IsReady, World.LendsClient}
 use Rattle.serde_json.specs.Data.{Data}
 use Rattle.iot_kept.specs.States as kept
 use Rattle.iot_machine.specs.Machine as machine
@@ -26,7 +27,7 @@ module _ {D : Type 0} (medium : Medium D) where
   pub names_are : (world : World D) (m : Machine) → StandsFor medium world m → client_names world ≡ names_in m
   names_are world m here =
       each_same_as (StandsIn medium m.scripts m.server.durable) (λ (l : Laptop D). l.name) (λ (k : machine.Client). k.name)
-      (λ laptop k it. same_name medium m.scripts laptop k it.client) world.clients.items m.clients here.clients_
+      (λ laptop k it. it.client.name) world.clients.items m.clients here.clients_
 
   -- ---- the list
 
@@ -60,7 +61,7 @@ module _ {D : Type 0} (medium : Medium D) where
         → IsView medium t laptop
         → shown new ≡ shown old ++ live_data laptop.name items t ∷ [] → Tells medium laptop old new
     tells_live items t up same sees told = λ scripts m here.
-        let there : LaptopStands medium scripts laptop m = awake_stands medium scripts laptop m up here in
+        let there = awake_stands medium scripts laptop m up here in
         let queue = queue_are (state_in laptop).items (state_in laptop).held m.node.durable there.state.held there.state.items in
         let is : live_data laptop.name items t ≡ client_data m = rw (there.alive, same, queue, there.name, sees scripts m there) in
         record {
@@ -78,10 +79,9 @@ module _ {D : Type 0} (medium : Medium D) where
     -- one more
     pub tells_more : (old new : Json) → TellsFirst world n old → Tells medium laptop old new → TellsFirst world (n + 1) new
     tells_more old new so_far one = λ m here.
-        let front : HasTold (take n m.clients) old = so_far m here in
-        let added : AddsTold (client_in m n) old new =
-        one m.scripts (client_in m n) (client_here medium world m here n laptop get).client in
-        let within : n < length m.clients = inside_here medium world m here n laptop get in
+        let front = so_far m here in
+        let added = one m.scripts (client_in m n) (client_here medium world m here n laptop get).client in
+        let within = inside_here medium world m here n laptop get in
         record {
           clients = rw (added.clients, front.clients) (sym (map_more client_data m.clients n no_client within));
           names = rw (added.names, front.names) (sym (map_more (λ (client : Client). client.name) m.clients n no_client within));
@@ -97,28 +97,17 @@ module _ {D : Type 0} (medium : Medium D) where
 
 module _ {D : Type 0} (medium : Medium D) (laptop : Laptop D) (x y : List ℕ) where
   -- what its node says leaves it
-  shown_by : (on : Bool) (said : List ℕ) → y ≡ x ++ said → (scripts : List Declared)
+  pub shown_by : (on : Bool) (said : List ℕ) → y ≡ x ++ said → (scripts : List Declared)
       → ((m : Client) → ClientStands medium scripts laptop m → (on ≡ m.node.alive)
       × either (Says (λ node. tree_text (view node.durable))) (Says (λ _. line (codes "down"))) on m.node said tt m.node)
       → Refines (ClientStands medium scripts) (node_part Show) laptop laptop x y tt
   shown_by on said wrote scripts each = record {
     step = λ m here.
         let it = each m here in
-        let shows : Shows (λ state. tree_text (view state)) m.node said tt m.node =
+        let step : Shows (λ state. tree_text (view state)) m.node said tt m.node =
         record { mid = m.node; front = []; rest = said; answer = on; first = (refl, it.0, refl); second = it.1; whole = refl } in
-        (said, m, wrote, record { inner = m.node; step = shows; is = refl }, here);
+        (said, m, wrote, record { inner = m.node; step = step; is = refl }, here);
   }
-
-  pub shows : (t : Nodes) → is_alive laptop ≡ true → IsView medium t laptop → y ≡ x ++ tree_text t
-      → (scripts : List Declared) → Refines (ClientStands medium scripts) (node_part Show) laptop laptop x y tt
-  shows t up is wrote scripts = shown_by true (tree_text t) wrote scripts (λ m here.
-      let there = awake_stands medium scripts laptop m up here in (sym there.alive, (ap tree_text (is scripts m there), refl)))
-
-  -- one that is down shows nothing
-  pub shows_down : is_alive laptop ≡ false → y ≡ x ++ line (codes "down")
-      → (scripts : List Declared) → Refines (ClientStands medium scripts) (node_part Show) laptop laptop x y tt
-  shows_down down wrote scripts =
-      shown_by false _ wrote scripts (λ m here. (sym (fallen_stands medium scripts laptop m down here).alive, (refl, refl)))
 
 -- ---- the clients that a world lends
 
@@ -133,20 +122,19 @@ module _ {D : Type 0} (medium : Medium D) where
     pub lends_any : (o : Option (LiveClient D)) → o ≡ lent_by laptop.post → (m : Machine) → StandsFor medium world m
         → LendsClient medium o place m
     lends_any None is m here =
-        inr (fallen_stands medium m.scripts laptop (client_in m place) (down_by laptop.post is)
-        (client_here medium world m here place laptop get).client).alive
+        inr (node_is medium laptop (client_in m place) (client_here medium world m here place laptop get).client.node
+        ∙ down_by laptop.post is)
       where
         down_by : (post : Post (Seated D) D) → None ≡ lent_by post → is_alive (record laptop { post = post }) ≡ false
         down_by (Up seated) none = absurd cc
         down_by post none = refl
     lends_any (Some it) is m here =
-        let up : laptop.post ≡ Up (record { client = it }) = lent_up laptop.post it is in
-        let there : LaptopStands medium m.scripts laptop (client_in m place) =
+        let up = lent_up laptop.post it is in
+        let there =
         awake_stands medium m.scripts laptop (client_in m place) (ap (λ (p : Post (Seated D) D). is_alive (record laptop { post = p })) up)
         (client_here medium world m here place laptop get).client in
-        let lent : IsLent medium laptop it =
-        lent_at medium laptop it up (record { scripts = m.scripts; machine = client_in m place; stands = there }) in
-        let within : place < length m.clients = inside_here medium world m here place laptop get in
+        let lent = lent_at medium laptop it up (record { scripts = m.scripts; machine = client_in m place; stands = there }) in
+        let within = inside_here medium world m here place laptop get in
         let many = same_length medium world m here in (
           within,
           record {

@@ -2,8 +2,8 @@
 use Rattle.std.{proofs.Math.Nat.add_comm, proofs.lemmas.List.same_from_push, specs.Option.option_map}
 use Rattle.iot_server_node.{proofs.BackupLaws.ArePlaced, proofs.BackupLaws.placed_in, specs.Disks.sides_of}
 use Rattle.iot_server_node.specs.{Disks.turned, Keepers.disks_in, Servers.TurnsToBackup, Servers.given_up_in, Servers.turned_post}
-use Rattle.iot_world.proofs.Common.{Arms, Between, Bool, Disks, Down, HasPlaces}
-use Rattle.iot_world.proofs.Common.{IsBeside, KeepsDisk, List, Medium, Option, Post, ServerKeeper, ServerNode, Some, Up, ap, arith}
+use Rattle.iot_world.proofs.Common.{Arms, Bool, Disks, Down}
+use Rattle.iot_world.proofs.Common.{HasPlaces, IsBeside, KeepsDisk, List, Medium, Option, Post, ServerKeeper, ServerNode, Some, ap, arith}
 use Rattle.iot_world.proofs.Common.{disk_of, drop, false, inl, inr, is_promoted, is_up, length, length-append, on_both, other_of, placed}
 use Rattle.iot_world.proofs.Common.{refl, same_Some, slice_index_or, subst, sym, true, with_ends, with_server, [], ◌+◌, ◌∙◌, ◌∷◌, ◌≡◌, ◌⊎◌}
 use Rattle.iot_world.specs.Disks.{AreTwoUnarmed, SameOrRose}
@@ -35,32 +35,22 @@ module _ {D : Type 0} (medium : Medium D) where
 
   -- so its disks are in their places
   abbrev pub has_places : (server : ServerNode D) (promoted : Bool) (arms : Arms) → ServerPlaced server promoted arms → HasPlaces server
-  has_places server promoted arms it = record {
-    disks = placed promoted it.first it.last;
-    has = it.has;
-    placed = record { promoted = promoted; first = it.first; last = it.last; is = refl };
-  }
+  has_places server promoted arms it = record { promoted = promoted; first = it.first; last = it.last; has = it.has }
 
-  -- these are they
-  pub places_have : (server : ServerNode D) (it : HasPlaces server)
-      → disk_of server ≡ Some (placed it.placed.promoted it.placed.first it.placed.last)
-  places_have server it = it.has ∙ ap (λ (disks : Disks D). Some disks) it.placed.is
-
-  pub placed_beside : (server : ServerNode D) (promoted : Bool) (first last : D) → disk_of server ≡ Some (placed promoted first last)
-      → IsBeside medium server promoted (medium.arms (other_of promoted first last))
-  placed_beside server false first last has = record { is = ap (option_map (sides_of medium)) has }
-  placed_beside server true first last has = record { is = ap (option_map (sides_of medium)) has }
+  abbrev pub beside_places : (server : ServerNode D) (promoted : Bool) (arms : Arms) → IsBeside medium server promoted arms
+      → HasPlaces server
+  beside_places server promoted arms it = has_places server promoted arms (server_placed server promoted arms it)
 
   promoted_by : (promoted : Bool) (first last : D) → given_up_in (Some (placed promoted first last)) ≡ promoted
   promoted_by false first last = refl
   promoted_by true first last = refl
 
-  pub promoted_at : (server : ServerNode D) (it : HasPlaces server) → is_promoted server ≡ it.placed.promoted
-  promoted_at server it = ap given_up_in (places_have server it) ∙ promoted_by it.placed.promoted it.placed.first it.placed.last
+  pub promoted_at : (server : ServerNode D) (it : HasPlaces server) → is_promoted server ≡ it.promoted
+  promoted_at server it = ap given_up_in it.has ∙ promoted_by it.promoted it.first it.last
 
   pub promoted_is : (server : ServerNode D) (promoted : Bool) (arms : Arms) → IsBeside medium server promoted arms
       → is_promoted server ≡ promoted
-  promoted_is server promoted arms it = promoted_at server (has_places server promoted arms (server_placed server promoted arms it))
+  promoted_is server promoted arms it = promoted_at server (beside_places server promoted arms it)
 
   -- ---- the server's disks among the others
 
@@ -74,8 +64,8 @@ module _ {D : Type 0} (medium : Medium D) where
   server_list server promoted first last has xs = ap (λ (o : Option (Disks D)). with_server o xs) has ∙ list_placed promoted first last xs
 
   pub places_list : (server : ServerNode D) (it : HasPlaces server) (xs : List D)
-      → with_server (disk_of server) xs ≡ with_ends it.placed.first it.placed.last xs
-  places_list server it = server_list server it.placed.promoted it.placed.first it.placed.last (places_have server it)
+      → with_server (disk_of server) xs ≡ with_ends it.first it.last xs
+  places_list server it = server_list server it.promoted it.first it.last it.has
 
   -- ---- from one call to the next
 
@@ -83,7 +73,7 @@ module _ {D : Type 0} (medium : Medium D) where
   pub record ServerFollows (old new : ServerNode D) : Type 0 where
     pub was : HasPlaces old
     pub now : HasPlaces new
-    pub unarmed : AreTwoUnarmed medium was.placed.first was.placed.last now.placed.first now.placed.last
+    pub unarmed : AreTwoUnarmed medium was.first was.last now.first now.last
 
   two_unarmed : (promoted : Bool) (first last new_first new_last : D)
       → medium.arms (placed promoted new_first new_last).disk ≡ medium.arms (placed promoted first last).disk
@@ -126,9 +116,8 @@ module _ {D : Type 0} (medium : Medium D) where
   turned_has : (post : Post (ServerKeeper D) (Disks D)) (first last : D) → posts.is_on post ≡ false
       → posts.disk_of disks_in post ≡ Some (placed false first last)
       → posts.disk_of disks_in (turned_post post) ≡ Some (placed true first last)
-  turned_has (Up keeper) first last down has = absurd cc
   turned_has (Down fallen) first last down has = ap (option_map turned) has
-  turned_has Between first last down has = absurd cc
+  turned_has post first last down has = absurd cc
 
   -- it has the last disk then, and the first is the other one
   turned_server : (old new : ServerNode D) (arms : Arms) → IsBeside medium old false arms → is_up old ≡ false
@@ -148,7 +137,7 @@ module _ {D : Type 0} (medium : Medium D) where
   promoted_follows old new promoted arms here stays turns = by (is_up old) (is_promoted old) refl refl
     where
       as_it_was : new ≡ old → ServerFollows old new
-      as_it_was same = rw same (same_server old (has_places old promoted arms (server_placed old promoted arms here)))
+      as_it_was same = rw same (same_server old (beside_places old promoted arms here))
 
       by : (up again : Bool) → is_up old ≡ up → is_promoted old ≡ again → ServerFollows old new
       by true again up is = as_it_was (stays (inl up))

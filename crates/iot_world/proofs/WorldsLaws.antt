@@ -2,22 +2,20 @@
 use Rattle.std.proofs.Common.{Err, IfSome, Ok, OnOk, Result}
 use Rattle.std.proofs.{Math.Seq.map-set_same, lemmas.Option.slice_get-get_or, lemmas.Option.slice_get-map, lemmas.Option.slice_get_within}
 use Rattle.{iot_disk.specs.Disk.armed_with, iot_disk.specs.declared.disk.Pick.Pick, iot_event.specs.declared.event.LinkEvent.LinkEvent}
-use Rattle.{iot_event.specs.declared.event.Task.Task, iot_exchange.specs.Pairs.AnyStands}
-use Rattle.{iot_exchange.specs.Pairs.IsStandingWith, iot_exchange.specs.Pairs.two, iot_judging.proofs.FollowingLaws.Grows}
-use Rattle.{iot_judging.proofs.FollowingLaws.follows_on, iot_judging.proofs.FollowingLaws.stays, iot_laptop.specs.Alone.OpensClient}
-use Rattle.iot_lasting.{proofs.LastingLaws.an_event_keeps_commits, specs.Lasting.AddsOne, specs.Lasting.IsGrowing}
-use Rattle.iot_machine.proofs.KeepsLaws.{Stays, asks_then, keeps_at, keeps_does, keeps_then, stays_goes_on, stays_says, stays_then}
-use Rattle.iot_machine.proofs.{SoundLaws.sound_event, StepsLaws.joined}
-use Rattle.iot_machine.specs.{Calls.Asks, Calls.At, Calls.Lens, Calls.Then, Clients.Running}
-use Rattle.iot_machine.specs.Events.{ArmsBackup, IfUp, RestartsServer, comes_back, counts_anew, cuts_off, link_part, task_part}
-use Rattle.iot_machine.specs.Machine.{arm_backup, give_up, node, pair_at, server}
-use Rattle.iot_machine.specs.{Refining.StepFrom, Serving.backup_name, Sound.IsSure, Stops.Restarts, Texts.stop_line}
-use Rattle.iot_server_node.{proofs.ServersLaws.up_is, specs.Servers.ArmsServersBackup, specs.Servers.Promotes, specs.Servers.answered_since}
-use Rattle.iot_world.proofs.Common.{ArePlaced}
-use Rattle.iot_world.proofs.Common.{Arms, Between, Bool, Call, Client, ClientStands, ClientState, Commit, Declared, DeclaredScript}
-use Rattle.iot_world.proofs.Common.{Disks, Down, Each, Event, Global, HavingAnswered, IsBeside, IsOneMoreIfAny, IsWorldOfSome, KeepsBeside}
-use Rattle.iot_world.proofs.Common.{KeepsTrails, Laptop, List, Machine, MakesStep, Medium, Node, NodeEvent, None, Option, Post, PostStands}
-use Rattle.iot_world.proofs.Common.{Profile, Refines, Says, ServerKeeper, ServerNode, ServerStands, Some, StandsAnyhow, StandsFor, StandsIn}
+use Rattle.{iot_event.specs.declared.event.Task.Task, iot_exchange.specs.Pairs.AnyStands, iot_exchange.specs.Pairs.IsStandingWith}
+use Rattle.{iot_exchange.specs.Pairs.two, iot_judging.proofs.FollowingLaws.Grows, iot_judging.proofs.FollowingLaws.follows_on}
+use Rattle.{iot_judging.proofs.FollowingLaws.stays, iot_lasting.proofs.LastingLaws.an_event_keeps_commits}
+use Rattle.iot_lasting.{proofs.TellingLaws.does_link, proofs.TellingLaws.does_node, specs.Lasting.AddsOne, specs.Lasting.Lasts}
+use Rattle.{iot_lasting.specs.Ledger.row_of, iot_machine.proofs.SoundLaws.sound_event, iot_machine.proofs.StepsLaws.joined}
+use Rattle.iot_machine.specs.Calls.{Asks, At, Lens, Then}
+use Rattle.iot_machine.specs.Events.{ArmsBackup, IfUp, RestartsServer, counts_anew, link_part, task_part}
+use Rattle.iot_machine.specs.{Machine.arm_backup, Machine.give_up, Machine.pair_at, Machine.server, Serving.backup_name, Sound.IsSure}
+use Rattle.{iot_machine.specs.Stops.Restarts, iot_machine.specs.Texts.stop_line, iot_server_node.proofs.ServersLaws.up_is}
+use Rattle.iot_server_node.specs.Servers.{ArmsServersBackup, IsOneMoreIfAny, Promotes, answered_since}
+use Rattle.iot_world.proofs.Common.{ArePlaced, Arms, Between, Bool, Call, Client, ClientStands, Commit, Declared, DeclaredScript, Disks}
+use Rattle.iot_world.proofs.Common.{Down, Each, Event, Global, HavingAnswered, IsBeside, IsWorldOfSome, KeepsBeside, KeepsTrails, Laptop}
+use Rattle.iot_world.proofs.Common.{List, Machine, MakesStep, Medium, Node, NodeEvent, None, Option, Post, PostStands, Profile, Refines}
+use Rattle.iot_world.proofs.Common.{Says, ServerKeeper, ServerNode, ServerStands, Some, StandsAnyhow, StandsFor, StandsIn, StepFrom}
 use Rattle.iot_world.proofs.Common.{StepsTo, Up, Vec, World, ap, arith, at_each, client_at, client_in, codes, does, either, event_part}
 use Rattle.iot_world.proofs.Common.{false, follows_kept, inl, inr, is_promoted, is_up, kept_text, length, length-set, line, lists}
 use Rattle.iot_world.proofs.Common.{map, names_in, no_client, node_part, on_both, quiet, refl, rules, same_Some, server_name, slice_get}
@@ -26,7 +24,6 @@ use Rattle.iot_world.proofs.ListLaws.{each_get, each_length, each_map, each_plac
 use Rattle.iot_world.{proofs.PlacesLaws.promoted_is, specs.World.EventSteps, specs.World.scripts_of}
 use Rattle.iot_event.specs.declared.event.ClientEvent.TheVariants as client_events
 use Rattle.iot_event.specs.declared.event.Event.TheVariants as events
-use Rattle.iot_event.specs.declared.event.LinkEvent.TheVariants as links
 use Rattle.iot_event.specs.declared.event.NodeEvent.TheVariants as nodes
 use Rattle.iot_exchange.specs.Scripts as exchange
 use Rattle.iot_machine.specs.Events as machine
@@ -34,61 +31,36 @@ use Rattle.iot_machine.specs.Nodes as nodes_of
 
 -- ---- the server's list gets longer in each event, or stays: so what a client holds goes on following it
 
-is_sure : {D : Type 0} (medium : Medium D) (names : List (List ℕ)) (post : Post (ServerKeeper D) (Disks D))
-    (node : Node (List Commit)) → PostStands (lists medium) (on_both medium) (kept_text names) post node → IsSure node
-is_sure medium names (Up keeper) node here = λ up. here.sure
-is_sure medium names (Down fallen) node here = λ up. absurd cc
-is_sure medium names Between node here = absurd here
+pub event_grows : {D : Type 0} (medium : Medium D) (world : World D) (event : Event) (m n : Machine) (text : List ℕ)
+    → StandsFor medium world m → event_part event m text tt n → Grows m.server.durable n.server.durable
+event_grows {D} medium world event m n text here step = record { later = lasts.front.more; is = lasts.front.is }
+  where
+    sure : (post : Post (ServerKeeper D) (Disks D)) → PostStands (lists medium) (on_both medium) (kept_text (names_in m)) post m.server
+        → IsSure m.server
+    sure (Up keeper) stands up = stands.sure
+    sure (Down fallen) stands up = absurd cc
+    sure Between stands up = absurd stands
 
-adds_one : (commits : List Commit) (doubt : Option (List Commit)) → IsOneMoreIfAny commits doubt → IfSome doubt (AddsOne commits)
-adds_one commits None more = tt
-adds_one commits (Some longer) more = record { commit = more.commit; is = more.is }
+    adds : (doubt : Option (List Commit)) → IsOneMoreIfAny m.server.durable doubt → IfSome doubt (AddsOne m.server.durable)
+    adds None more = tt
+    adds (Some longer) more = record { commit = more.commit; is = more.is }
 
-module _ {D : Type 0} (medium : Medium D) (world : World D) where
-  growing : (m : Machine) → StandsFor medium world m → IsGrowing m.server
-  growing m here = record {
-    sure = is_sure medium _ world.server.post m.server here.server.post;
-    adds = adds_one m.server.durable m.server.doubt here.server.known.longer;
-  }
-
-  pub event_grows : (event : Event) (m n : Machine) (text : List ℕ) → StandsFor medium world m → event_part event m text tt n
-      → Grows m.server.durable n.server.durable
-  event_grows event m n text here step =
-      let lasts = an_event_keeps_commits event m n text (growing m here) step in
-      record { later = lasts.front.more; is = lasts.front.is }
+    lasts : Lasts m.server n.server
+    lasts = an_event_keeps_commits event m n text
+        (record { sure = sure world.server.post here.server.post; adds = adds m.server.doubt here.server.known.longer }) step
 
 -- ---- what befalls a client leaves its name
 
 -- the client has the same name after this call
-abbrev pub KeepsName : {A : Type 0} → Call Client A → Type 0
-KeepsName call = (name : List ℕ) → Stays (λ client. client.name ≡ name) call
+abbrev pub KeepsName : Call Client (Unit {0}) → Type 0
+KeepsName call = (m n : Client) (text : List ℕ) → call m text tt n → n.name ≡ m.name
 
-at_its_node : {A : Type 0} {call : Call (Node ClientState) A} → KeepsName (At node call)
-at_its_node name = keeps_at (λ m same. record { at = λ k n text a is step. same })
-
-keeps_cut : (running : List Running) → KeepsName (cuts_off running)
-keeps_cut [] name = keeps_does (λ m same. same)
-keeps_cut (it ∷ running) name =
-    stays_then (record { at = λ m n text a same step. ap (λ (one : Client). one.name) step.2 ∙ same })
-    (λ acts.
-    stays_then (record { at = λ m n text a same step. ap (λ (one : Client). one.name) step.is ∙ same })
-    (stays_goes_on (stays_then stays_says (λ said. keeps_cut running name))))
-
-keeps_back : (alive : Bool) → KeepsName (comes_back alive)
-keeps_back true name = keeps_does (λ m same. same)
-keeps_back false name = asks_then (λ called. keeps_then (at_its_node name) (stays_goes_on (asks_then (λ running. keeps_cut running name))))
-
+-- as a ledger of this client alone tells
 pub node_keeps : (what : NodeEvent) → KeepsName (node_part what)
-node_keeps nodes.Show name = at_its_node name
-node_keeps nodes.Restart name = asks_then (λ alive. keeps_back alive name)
-node_keeps what name = asks_then (λ called. at_its_node name)
+node_keeps what m n text step = ((does_node (row_of m ∷ []) 0 0 [] what).at m n text tt refl step).1
 
 pub link_keeps : (what : LinkEvent) → KeepsName (link_part what)
-link_keeps links.Connect name = keeps_does (λ m same. same)
-link_keeps what name = keeps_does (λ m same. same)
-
-pub opens_keeps : KeepsName OpensClient
-opens_keeps name = record { at = λ m n text a same step. ap (λ (one : Client). one.name) step.is ∙ same }
+link_keeps what m n text step = ((does_link (row_of m ∷ []) 0 0 [] what).at m n text tt refl step).1
 
 -- ---- steps of the machine
 
@@ -188,13 +160,11 @@ module _ {D : Type 0} (medium : Medium D) where
 
     -- in which the server may have armed a disk, or have turned to its backup
     stands_as : (m : Machine) (node : Node (List Commit)) (n : ℕ) (promoted : Bool) (arms : Arms) (ks : List Client)
-        → StandsFor medium old m → map (λ (k : Client). k.name) ks ≡ names_in m → ServerStands medium (names_in m) server_ node n
-        → IsBeside medium server_ promoted arms
-        → Each (StandsIn medium m.scripts node.durable) clients.items ks → ArePlaced clients.items
-        → length clients.items ≡ length old.clients.items
+        → StandsFor medium old m → ServerStands medium (map (λ (k : Client). k.name) ks) server_ node n
+        → IsBeside medium server_ promoted arms → Each (StandsIn medium m.scripts node.durable) clients.items ks
+        → ArePlaced clients.items → length clients.items ≡ length old.clients.items
         → StandsFor medium now (record m { server = node; requests = n; promoted = promoted; beside = arms; clients = ks })
-    stands_as m node n promoted arms ks here names served beside clients_ placed many =
-        let server = subst (λ (names : List (List ℕ)). ServerStands medium names server_ node n) (sym names) served in
+    stands_as m node n promoted arms ks here server beside clients_ placed many =
         let eight : length clients.items + length old.spare.items ≡ 8 = omega (arith, here.eight, many) in
         search rules
 
@@ -210,7 +180,7 @@ module _ {D : Type 0} (medium : Medium D) where
           → StandsFor medium now (record m { server = node; requests = n; clients = slice_set m.clients c k })
       put_there m k node n here stands place name served more =
           stands_as m node n m.promoted m.beside (slice_set m.clients c k) here
-          (map-set_same (λ (k : Client). k.name) m.clients c k no_client name) served (kept m.promoted m.beside here.beside)
+          (rw (map-set_same (λ (k : Client). k.name) m.clients c k no_client name) served) (kept m.promoted m.beside here.beside)
           (rw put (each_set (StandsIn medium m.scripts node.durable) old.clients.items m.clients c laptop k stands
           (all_follow old m node here more)))
           (subst ArePlaced (sym put) (each_place_set (λ n (l : Laptop D). l.place ≡ n) old.clients.items c laptop here.placed place))
@@ -240,7 +210,7 @@ module _ {D : Type 0} (medium : Medium D) where
       let get = looked_up _ _ _ _ refl inside value in
       let there = client_here old m here c was get in
       let s = (one m.scripts).step (client_in m c) there.client in
-      let named = (keeps (client_in m c).name).at (client_in m c) s.1 s.0 tt refl s.3 in
+      let named = keeps (client_in m c) s.1 s.0 s.3 in
       let follows = follows_kept (stamps_in was) (stamps_in laptop) m.server.durable trails there.follows in
       let stands : StandsIn medium m.scripts m.server.durable laptop s.1 = record { client = s.4; follows = follows } in
       asked {a = m.scripts} refl (at_part (client_at c) s.0 s.1 s.2 s.3
@@ -258,25 +228,18 @@ module _ {D : Type 0} (medium : Medium D) where
         → ServerStands medium (names_in m) server_ node n → IsBeside medium server_ promoted arms → Grows m.server.durable node.durable
         → StandsFor medium later (record m { server = node; requests = n; promoted = promoted; beside = arms })
     beside_with m node n promoted arms here stands beside more =
-        stands_as old server_ old.clients m node n promoted arms m.clients here refl stands beside (all_follow old m node here more)
+        stands_as old server_ old.clients m node n promoted arms m.clients here stands beside (all_follow old m node here more)
         here.placed refl
 
     module _ (kept : KeepsBeside medium old.server server_) where
-      served : (m : Machine) (node : Node (List Commit)) (n : ℕ) → StandsFor medium old m
-          → ServerStands medium (names_in m) server_ node n → Grows m.server.durable node.durable
-          → StandsFor medium later (record m { server = node; requests = n })
-      served m node n here stands more = beside_with m node n m.promoted m.beside here stands (kept m.promoted m.beside here.beside) more
-
-      -- whatever event it is, after which the list has got longer
-      pub at_server : {call : Call (Node (List Commit)) (Unit {0})} (x y : List ℕ)
-          → (((m : Machine) → StandsFor medium old m → StepFrom (Since m) (At server call) m later x y tt)
-          → MakesStep medium (At server call) old later x y tt)
+      -- an event that the server alone does
+      pub at_server : {call : Call (Node (List Commit)) (Unit {0})} (event : Event) (x y : List ℕ) → event_part event ≡ At server call
           → ((names : List (List ℕ)) (n : ℕ)
           → StepsTo (HavingAnswered medium names n) (HavingAnswered medium names n) call old.server server_ x y tt)
-          → MakesStep medium (At server call) old later x y tt
-      at_server x y event one = event (λ m here.
+          → MakesStep medium (event_part event) old later x y tt
+      at_server event x y is one = grown event old later x y (λ m here.
           let s = (one (names_in m) m.requests).step m.server here.server in
-          at_part server s.0 s.1 s.2 s.3 (served m s.1 m.requests here s.4))
+          rw is (at_part server s.0 s.1 s.2 s.3 (beside_with m s.1 m.requests _ _ here s.4 (kept _ _ here.beside))))
 
       -- it comes back, and counts anew unless it was alive
       pub restarts : (x y : List ℕ) → ((names : List (List ℕ)) (n : ℕ)
@@ -292,8 +255,8 @@ module _ {D : Type 0} (medium : Medium D) where
           anew : (m : Machine) (node : Node (List Commit)) → StandsFor medium old m → (alive : Bool)
               → ServerStands medium (names_in m) server_ node (answered_since alive m.requests)
               → Since m later (counts_anew alive (server.set node m))
-          anew m node here true stands = served m node m.requests here stands
-          anew m node here false stands = served m node 0 here stands
+          anew m node here true stands = beside_with m node m.requests _ _ here stands (kept _ _ here.beside)
+          anew m node here false stands = beside_with m node 0 _ _ here stands (kept _ _ here.beside)
 
     -- its disk is armed, or that of the server if it was promoted
     pub arms_backup : (calls : ℕ) (pick : Pick) (x y : List ℕ) → y ≡ x ++ stop_line backup_name calls pick
@@ -324,18 +287,15 @@ module _ {D : Type 0} (medium : Medium D) where
         asked (sym (up_is medium (names_in m) old.server m.server m.requests here.server))
         (by m here (is_up old.server) (is_promoted old.server) refl refl))
       where
-        asks_own : (m : Machine) → StandsFor medium old m → is_promoted old.server ≡ m.promoted
-        asks_own m here = promoted_is medium old.server m.promoted m.beside here.beside
-
         by : (m : Machine) → StandsFor medium old m → (on promoted : Bool) → is_up old.server ≡ on → is_promoted old.server ≡ promoted
             → StepFrom (Since m) (either (Says (λ _. line (codes "up"))) (Then (Asks (λ m. m.promoted)) machine.promotes_unless) on) m
             later x y tt
         by m here true promoted is own =
             record { text = _; next = m; wrote = up is; step = (refl, refl); stands = λ more. rw (stays (inl is)) here }
-        by m here false true is own = asked (sym own ∙ asks_own m here)
+        by m here false true is own = asked (sym own ∙ promoted_is medium _ _ _ here.beside)
             (record { text = _; next = m; wrote = again is own; step = (refl, refl); stands = λ more. rw (stays (inr own)) here })
         by m here false false is own =
-            let not_yet : false ≡ m.promoted = sym own ∙ asks_own m here in
+            let not_yet : false ≡ m.promoted = sym own ∙ promoted_is medium _ _ _ here.beside in
             let s = (one is own (names_in m)).step m.server m.requests m.beside here.server (rw (← not_yet) at here.beside) in
             let turned : Machine = give_up m in
             asked not_yet (joined (quiet {P = Any} {v = later} turned (refl, refl) tt)
@@ -374,3 +334,6 @@ module _ {D : Type 0} {medium : Medium D} {old new : World D} {x y : List ℕ} w
   steps_some event some one =
       let s = (event_steps event one).step some.machine some.stands in
       record { machine = s.1; stands = s.4 }
+
+-- so it is in a world of some machine
+pub ruleset of_some = (some_stands, task_stands, event_steps, steps_some)

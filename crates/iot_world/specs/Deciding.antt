@@ -29,7 +29,7 @@ pub record DecidesComeback {D : Type 0} (medium : Medium D) (by : Comeback) (old
   pub by_all : DecidesServer medium by old.server before after
   pub by_image : (names : List (List ℕ)) (n : ℕ) (node : nodes.Node (List Commit)) → ServerStands medium names old.server node n
       → CameIf (lists medium) (on_both medium) (is_up new.server) (post_for by (post_of old.server)) (words_of by server_name)
-      before after node
+      before after node.durable node.doubt
 
 -- a node that the event restarts
 abbrev pub ClientDecides : {D : Type 0} → Medium D → NodeEvent → (before after : List ℕ) → Laptop D → Type 0

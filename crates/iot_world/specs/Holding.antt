@@ -25,8 +25,7 @@ pub record StandTogether (one other : List ℕ) (commits longer : List Commit) :
 
 -- both have the list without the commit that is in doubt, or they stand together for the list with it
 abbrev pub HoldTogether : (one other : List ℕ) → (commits longer : List Commit) → Type 0
-HoldTogether one other commits longer =
-    (IsListed commits one × IsListed commits other) ⊎ StandTogether one other commits longer
+HoldTogether one other commits longer = (IsListed commits one × IsListed commits other) ⊎ StandTogether one other commits longer
 
 -- The first disk and the last. If nothing is in doubt, each image of either has the server's list; else it is so of each pair of images.
 -- Since the last was promoted, nothing is said of the first, which was given up.

@@ -20,5 +20,4 @@ pub record AddsTold (m : Client) (old new : Json) : Type 0 where
 
 -- each client for which it stands, alive or down, was told
 abbrev pub Tells : {D : Type 0} → Medium D → Laptop D → (old new : Json) → Type 0
-Tells medium laptop old new =
-    (scripts : List Declared) (m : Client) → ClientStands medium scripts laptop m → AddsTold m old new
+Tells medium laptop old new = (scripts : List Declared) (m : Client) → ClientStands medium scripts laptop m → AddsTold m old new

@@ -1,12 +1,12 @@
 -- Which plain machine a world stands for, node by node, and how a world changes.
-use Rattle.std.specs.Prelude.{IsSome, Ok, Result, slice_get, ◌++◌, ◌+◌, ◌<◌, ◌∷◌, ◌≡◌, ◌≤◌, ◌⊎◌}
+use Rattle.std.specs.Prelude.{IsSome, Ok, Result, if◌then◌else◌, slice_get, ◌++◌, ◌+◌, ◌<◌, ◌∷◌, ◌≡◌, ◌≤◌, ◌⊎◌}
 use Rattle.iot_client.specs.{Ties.AreBegun, Ties.IsTied, Ties.live_of, Ties.place_of, Ties.state_of, declared.client.Client.Client}
 use Rattle.{iot_judging.specs.Lists.Follows, iot_laptop.specs.Alone.OpensClient, iot_laptop.specs.Laptops.stamps_in}
 use Rattle.iot_machine.specs.{Calls.Call, Events.names_in, Machine.client_in, Machine.handed, Sound.IsSound, Transcript.Opening}
 use Rattle.{iot_node.specs.Disks.IsEmpty, iot_node.specs.Disks.counts_on, iot_server.specs.declared.server.Server.Server}
 use Rattle.iot_server_node.specs.{Disks.first_placed, Disks.last_placed, Servers.IsBeside, Servers.KeepsCommits}
 use Rattle.iot_standing.specs.{Kept.ItemsStand, Scripts.AreApart, States.RunStand}
-use Rattle.iot_world.specs.{Disks.AreTwoUnarmed, Disks.DiskBegins, Disks.HasEnds, Disks.with_ends, Prelude.AllByRecursion}
+use Rattle.iot_world.specs.{Disks.ServerBegins, Disks.with_ends, Prelude.AllByRecursion}
 use Rattle.iot_world.specs.Prelude.{AreDeclared, Bool, ClientStands, Commit, Declared, Disks, Event, HasPlaces, KeepsDisk, KeepsTrails}
 use Rattle.iot_world.specs.Prelude.{Laptop, List, Machine, Medium, None, Option, Refines, ServerStands, Some, World, client_line}
 use Rattle.iot_world.specs.Prelude.{disk_in, disk_of, event_part, false, is_promoted, length, map, true, vec_capacity, vec_len, ℕ, []}
@@ -76,14 +76,12 @@ pub record IsWorldOfSome {D : Type 0} (medium : Medium D) (world : World D) : Ty
   pub stands : IsWorldOf medium world machine
 
 -- a change of the world that wrote and answered is a step of the machine by this call
-abbrev pub MakesStep : {D A : Type 0} → Medium D → Call Machine A → (old new : World D)
-    → (before after : List ℕ) → A → Type 0
+abbrev pub MakesStep : {D A : Type 0} → Medium D → Call Machine A → (old new : World D) → (before after : List ℕ) → A → Type 0
 MakesStep medium call old new before after a = Refines (StandsFor medium) call old new before after a
 
 -- an event is a step of the machine whose world it is
 abbrev pub EventSteps : {D : Type 0} → Medium D → Event → (old new : World D) → (before after : List ℕ) → Type 0
-EventSteps medium event old new before after =
-    Refines (IsWorldOf medium) (event_part event) old new before after tt
+EventSteps medium event old new before after = Refines (IsWorldOf medium) (event_part event) old new before after tt
 
 -- ---- its disks
 
@@ -114,15 +112,11 @@ pub record HasDisks {D : Type 0} (world : World D) : Type 0 where
   pub clients : AllByRecursion LaptopHasDisk world.clients.items
   pub room : length world.clients.items + vec_len world.spare + 2 ≤ vec_capacity world.spare
 
--- these disks are the last of those
-pub record AreLast {D : Type 0} (disks all : List D) : Type 0 where
-  pub front : List D
-  pub split : all ≡ front ++ disks
-
--- They are those of before, and what is still spare was spare before.
+-- They are those of before, and what is still spare was spare before, behind those that were taken.
 pub record KeepsDisks {D : Type 0} (old new : World D) : Type 0 where
   pub has : HasDisks old → HasDisks new
-  pub spare : AreLast new.spare.items old.spare.items
+  pub taken : List D
+  pub spare : old.spare.items ≡ taken ++ new.spare.items
 
 -- what is so unless an event was done that arms a disk
 abbrev pub UnlessArmed : {T E : Type 0} → (arms : Bool) → Result T E → Type 0 → Type 0
@@ -154,15 +148,12 @@ abbrev pub joined_by : Event → ℕ
 joined_by (events.Client name) = 1
 joined_by other = 0
 
--- The disks come back of a world that was not made. The server's two were not armed, and each of their images stands for a state to which
+-- The disks come back of a world that was not made. None was armed, and each image of the server's two stands for a state to which
 -- commits lead, each of which can follow the ones before it; the others are as they were.
 pub record GivesBack {D : Type 0} (medium : Medium D) (disks back : List D) : Type 0 where
-  pub was : HasEnds disks
-  pub now : HasEnds back
-  pub same : now.others ≡ was.others
-  pub unarmed : AreTwoUnarmed medium was.first was.last now.first now.last
-  pub first : DiskBegins medium [] now.first
-  pub last : DiskBegins medium [] now.last
+  pub unarmed : AreUnarmed medium disks back
+  pub same : unarmed.now.others ≡ unarmed.was.others
+  pub begins : ServerBegins medium false [] unarmed.now.first unarmed.now.last
 
 -- ---- how a world begins
 
@@ -182,28 +173,13 @@ pub record Opens {D : Type 0} (medium : Medium D) (disks : List D) (before after
 
 -- ---- how a world changes
 
--- one more client is declared
-pub record DeclaresClient {D : Type 0} (old new : World D) : Type 0 where
-  pub clients : client_count new ≡ client_count old + 1
-  pub scripts : new.scripts.items ≡ old.scripts.items
-
--- a client that has started is said to have
-abbrev pub SaysStarted : (on : Bool) → (name before after : List ℕ) → Type 0
-SaysStarted true name before after = after ≡ before ++ client_line name
-SaysStarted false name before after = after ≡ before
-
--- a client that starts, or stops in that
+-- a client that starts, which is said, or stops in that
 pub record Starts {D : Type 0} (medium : Medium D) (name : List ℕ) (old new : Laptop D) (before after : List ℕ) : Type 0 where
   pub on : Bool
   pub between : List ℕ
   pub opens : (scripts : List Declared) → Refines (ClientStands medium scripts) OpensClient old new before between on
   pub trails : KeepsTrails old new
-  pub says : SaysStarted on name between after
-
--- nothing was declared
-pub record SameDeclared {D : Type 0} (old new : World D) : Type 0 where
-  pub clients : client_count new ≡ client_count old
-  pub scripts : new.scripts.items ≡ old.scripts.items
+  pub says : after ≡ (if on then between ++ client_line name else between)
 
 -- ---- nodes that are lent
 

@@ -1,10 +1,11 @@
 //! A client's declaration, and its events among all.
-ghost use Rattle.std.specs.Prelude.{◌++◌, ◌<◌, ◌≡◌};
-ghost use Rattle.iot_event.specs.declared.event.Event.TheVariants.{At};
+ghost use Rattle.std.specs.Prelude.{◌++◌, ◌<◌, ◌∷◌, ◌≡◌};
+ghost use Rattle.iot_event.specs.declared.event.Event.TheVariants.{At, Client};
+ghost use Rattle.iot_world.specs.Prelude.{Event};
 ghost use Rattle.{iot_laptop.specs.Laptops.IsUnopened, iot_machine.specs.Events.Declares};
 ghost use Rattle.iot_world.specs.{Allowed.MayBefall, Allowed.stops_client, Deciding.DecidesIn};
-ghost use Rattle.iot_world.specs.Prelude.{Extends, KeepsDisk, OnOk, SamePlace, client_line, disk_in, event_part, false, length, true};
-ghost use Rattle.iot_world.specs.World.{DeclaresClient, IsWorldOfSome, LeavesDisks, MakesStep, SameDeclared, Starts, client_count};
+ghost use Rattle.iot_world.specs.Prelude.{Extends, KeepsDisk, List, OnOk, SamePlace, client_line, disk_in, event_part, false, length, true};
+ghost use Rattle.iot_world.specs.World.{DeclaredOn, IsWorldOfSome, LeavesDisks, MakesStep, Starts, client_count};
 
 use crate::disks::take_first;
 use crate::nodes::{befall, relink};
@@ -28,7 +29,7 @@ impl<D: Disk> World<D> {
         requires few { client_count self.old < 8 }
         ensures step { OnOk result
             (MakesStep D.medium (Declares name.now) self.old self.new out.old out.new tt) }
-        ensures declared { OnOk result (DeclaresClient self.old self.new) }
+        ensures declared { OnOk result ((later : List Event) → DeclaredOn (Client name.now ∷ later) self.old → DeclaredOn later self.new) }
         ensures disks { LeavesDisks D.medium false 1 false result self.old self.new }
     {
         self.clients.reserve(1)?;
@@ -41,7 +42,7 @@ impl<D: Disk> World<D> {
     }
 
     /// An event of the client at this place.
-    #[tactic(auto, using(crate::proofs::WorldsLaws::some_stands, crate::proofs::WorldsLaws::task_stands))]
+    #[tactic(auto, using(crate::proofs::WorldsLaws::of_some, crate::proofs::DecidingLaws::decides_here))]
     pub(crate) fn at(
         &mut self,
         alloc: Global,
@@ -55,7 +56,7 @@ impl<D: Disk> World<D> {
         ensures step { OnOk result
             (MakesStep D.medium (event_part (At client what.now)) self.old self.new out.old out.new tt) }
         ensures decided { OnOk result (DecidesIn D.medium (At client what.now) self.old self.new out.old out.new) }
-        ensures counts { SameDeclared self.old self.new }
+        ensures declared { (later : List Event) → DeclaredOn (At client what.now ∷ later) self.old → DeclaredOn later self.new }
         ensures disks { LeavesDisks D.medium (stops_client what.now) 0 false result self.old self.new }
         ensures text { stops_client what.now ≡ true → Extends out.old out.new }
     {

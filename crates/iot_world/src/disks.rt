@@ -8,7 +8,6 @@ pub(crate) fn take_first<D>(disks: &mut Vec<D>) -> D
     ensures items { disks.old.items ≡ result ∷ disks.new.items }
     ensures len { vec_len disks.new + 1 ≡ vec_len disks.old }
     ensures capacity { vec_capacity disks.new ≡ vec_capacity disks.old }
-    ensures room { vec_len disks.new < vec_capacity disks.new }
 {
     disks.remove(0)
 }

@@ -85,9 +85,7 @@ fn tell<D: Disk>(laptop: &Laptop<D>, json: &mut Json) -> Result<(), NoMemory>
     ensures { OnOk result (Tells D.medium laptop.now json.old json.new) }
 {
     if !laptop.is_alive() {
-        json.down(laptop.name())?;
-        return Ok(());
+        return json.down(laptop.name());
     }
-    json.live(laptop.name(), laptop.client().queue(), laptop.view())?;
-    Ok(())
+    json.live(laptop.name(), laptop.client().queue(), laptop.view())
 }

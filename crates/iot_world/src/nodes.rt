@@ -47,8 +47,7 @@ fn show_view<D: Disk>(laptop: &Laptop<D>, out: &mut Text) -> Result<(), NoMemory
         laptop.now laptop.now out.old out.new tt) }
 {
     if laptop.is_alive() {
-        show(laptop.view(), out)?;
-        return Ok(());
+        return show(laptop.view(), out);
     }
     say(b"down", out)
 }

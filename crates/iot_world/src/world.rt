@@ -58,21 +58,17 @@ impl<D: Disk> World<D> {
         // What was said before stays, also if memory runs out.
         ensures text { Extends out.old out.new }
     {
-        let mut disks = disks;
-        let (first, backup) = take_ends(&mut disks);
-        let mut server = ServerNode::unopened(first, backup);
-        match server.open(alloc, out) {
-            Ok(_on) => Ok(World {
-                server,
-                clients: Vec::new(alloc),
-                scripts: Vec::new(alloc),
-                spare: disks,
-            }),
-            Err(_no_memory) => {
-                let (first, last) = server.into_disks();
-                put_ends(&mut disks, first, last);
-                Err(disks)
-            }
+        let mut spare = disks;
+        let (first, backup) = take_ends(&mut spare);
+        let mut world = World {
+            server: ServerNode::unopened(first, backup),
+            clients: Vec::new(alloc),
+            scripts: Vec::new(alloc),
+            spare,
+        };
+        match world.server.open(alloc, out) {
+            Ok(_on) => Ok(world),
+            Err(_no_memory) => Err(world.into_disks()),
         }
     }
 
@@ -81,7 +77,7 @@ impl<D: Disk> World<D> {
     /// # Errors
     ///
     /// If memory runs out.
-    #[tactic(auto, using(crate::proofs::WorldsLaws::event_steps, crate::proofs::DecidingLaws::added))]
+    #[tactic(auto, using(crate::proofs::WorldsLaws::of_some, crate::proofs::DecidingLaws::added))]
     pub fn apply(&mut self, alloc: Global, event: &Event, out: &mut Text) -> Result<(), NoMemory>
         requires allowed { IsAllowed event.now (client_count self.old) (script_names self.old) }
         requires stands { IsWorldOfSome D.medium self.old }
@@ -152,13 +148,11 @@ impl<D: Disk> World<D> {
         ensures ready { IsWorldOfSome D.medium self.now → IfSome (option_copied result) (λ it. IsReady D.medium place it) }
         ensures disk { IfSome (option_copied result) (λ it. ClientIs (λ laptop. disk_in laptop ≡ Some (client_disk it)) place self.now) }
     {
-        match self.clients.get(place as usize) {
-            Some(laptop) => laptop.lent(),
-            None => None,
-        }
+        self.clients.get(place as usize)?.lent()
     }
 
     /// Does one event, and says what it does. One that arms a disk says so before that; another one is to have a text of its own.
+    #[tactic(auto, using(crate::proofs::DisksLaws::stands_placed))]
     fn act(&mut self, alloc: Global, event: &Event, out: &mut Text) -> Result<(), NoMemory>
         requires allowed { IsAllowed event.now (client_count self.old) (script_names self.old) }
         requires stands { IsWorldOfSome D.medium self.old }
@@ -192,6 +186,7 @@ impl<D: Disk> World<D> {
     }
 
     /// Gives the ten disks back, in the order in which they were handed in. Does not allocate.
+    #[tactic(auto, using(crate::proofs::DisksLaws::last_has))]
     pub fn into_disks(self) -> Vec<D>
         requires { HasDisks self }
         ensures { result.items ≡ disks_of self }

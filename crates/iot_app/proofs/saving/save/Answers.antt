@@ -62,7 +62,7 @@ returns-in-Ok-clause-ends g c =
     (DisksKeepAt it c.args.disks.items old place) (tells Save) c.args.events.now)
     c.in-Ok.field-0 c.in-Ok.is c.run_events-told.ensures.told in
     rw c.of_read.ensures
-    (unsaved_did it g.met.D.Disk.reads_is_image c.args.disks.items old c.requires.fresh place c.index_mut.result.now
+    (unsaved_did it c.args.disks.items old c.requires.fresh place c.index_mut.result.now
     c.read_whole.new.disk c.index_mut.ensures.value c.read_whole.ensures.images c.read_whole.ensures.arms
     (Appends (g.K.Sink.written c.args.sink.now) (g.K.Sink.written c.args.sink.now)) (server_reads it new)
     c.args.events.now told.ran (appends_none _) (Vec ℕ Global) c.in-Err-read_whole.fault c.in-Err-read_whole.ensures.faults)

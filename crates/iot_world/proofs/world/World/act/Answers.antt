@@ -1,15 +1,14 @@
 use Rattle.iot_world.proofs.Common.{append-nil, commits_same, on_ok_weaker, refl, rules, says, sym}
 use Rattle.iot_world.proofs.{DecidingLaws.decides_promoted, DeclaringLaws.declares_script, DisksLaws.armed_leaves}
 use Rattle.iot_world.proofs.{DisksLaws.nothing_leaves, DisksLaws.server_keeps, DisksLaws.server_leaves, PlacesLaws.promoted_follows}
-use Rattle.iot_world.proofs.WorldsLaws.{arms_backup, at_server, both_ok, grown, promotes, restarts}
+use Rattle.iot_world.proofs.WorldsLaws.{arms_backup, at_server, both_ok, promotes, restarts}
 use Rattle.iot_event.specs.declared.event.Event.TheVariants as events
 use Rattle.iot_event.specs.declared.event.NodeEvent.TheVariants as nodes
 use Rattle.iot_world.proofs.world.World.act.Goals as goal
 
 pub returns-in_ok-push-in-Script-clause-step : goal.returns-in_ok-push-in-Script-clause-step
 returns-in_ok-push-in-Script-clause-step g c =
-    let none = rw c.in-Script.is at c.requires.allowed in
-    rw c.in-Script.is (declares_script _ _ _ _ _ _ none (search rules))
+    rw c.in-Script.is (declares_script _ _ _ _ _ _ (rw c.in-Script.is at c.requires.allowed) (search rules))
 
 pub returns-in_ok-push-in-Script-clause-disks : goal.returns-in_ok-push-in-Script-clause-disks
 returns-in_ok-push-in-Script-clause-disks g c = nothing_leaves g.D.Disk.medium _ _ _ c.requires.stands refl refl refl
@@ -31,16 +30,16 @@ returns-in-Log-clause-disks g c = nothing_leaves g.D.Disk.medium _ _ _ c.require
 
 pub returns-in-Show-clause-step : goal.returns-in-Show-clause-step
 returns-in-Show-clause-step g c =
-    rw (c.in-Server.is, c.in-Show.is) (on_ok_weaker _ (at_server _ _ _ (λ promoted arms had. had) _ _
-    (grown g.D.Disk.medium (events.Server nodes.Show) c.args.self.now _ _ _)) c.show.ensures)
+    rw (c.in-Server.is, c.in-Show.is)
+    (on_ok_weaker _ (at_server _ _ _ (λ promoted arms had. had) (events.Server nodes.Show) _ _ refl) c.show.ensures)
 
 pub returns-in-Show-clause-disks : goal.returns-in-Show-clause-disks
 returns-in-Show-clause-disks g c = nothing_leaves g.D.Disk.medium _ _ _ c.requires.stands refl refl refl
 
 pub returns-in-Stop-clause-step : goal.returns-in-Stop-clause-step
 returns-in-Stop-clause-step g c =
-    rw (c.in-Server.is, c.in-Stop.is) (on_ok_weaker _ (at_server _ _ _ c.arm.ensures.beside _ _
-    (grown g.D.Disk.medium (events.Server (nodes.Stop c.in-Stop.calls c.in-Stop.pick)) c.args.self.now _ _ _)) c.arm.ensures.step)
+    rw (c.in-Server.is, c.in-Stop.is)
+    (on_ok_weaker _ (at_server _ _ _ c.arm.ensures.beside (events.Server (nodes.Stop _ _)) _ _ refl) c.arm.ensures.step)
 
 pub returns-in-Stop-clause-disks : goal.returns-in-Stop-clause-disks
 returns-in-Stop-clause-disks g c =
@@ -49,14 +48,13 @@ returns-in-Stop-clause-disks g c =
 
 pub returns-in-Crash-clause-step : goal.returns-in-Crash-clause-step
 returns-in-Crash-clause-step g c =
-    rw (c.in-Server.is, c.in-Crash.is) (on_ok_weaker _ (at_server _ _ _ c.crash.ensures.beside _ _
-    (grown g.D.Disk.medium (events.Server nodes.Crash) c.args.self.now _ _ _)) c.crash.ensures.step)
+    rw (c.in-Server.is, c.in-Crash.is)
+    (on_ok_weaker _ (at_server _ _ _ c.crash.ensures.beside (events.Server nodes.Crash) _ _ refl) c.crash.ensures.step)
 
 pub returns-in-Crash-clause-disks : goal.returns-in-Crash-clause-disks
 returns-in-Crash-clause-disks g c =
     let it = c.crash.ensures in
-    rw c.in-Server.is
-    (server_leaves g.D.Disk.medium _ _ _ (server_keeps _ _ c.requires.stands _ it.beside it.disk (commits_same _ _ _ it.same)))
+    server_leaves g.D.Disk.medium _ _ _ (server_keeps _ _ c.requires.stands _ it.beside it.disk (commits_same _ _ _ it.same))
 
 pub returns-in-Restart-clause-step : goal.returns-in-Restart-clause-step
 returns-in-Restart-clause-step g c =
@@ -65,7 +63,7 @@ returns-in-Restart-clause-step g c =
 pub returns-in-Restart-clause-disks : goal.returns-in-Restart-clause-disks
 returns-in-Restart-clause-disks g c =
     let it = c.restart.ensures in
-    rw c.in-Server.is (server_leaves g.D.Disk.medium _ _ _ (server_keeps _ _ c.requires.stands _ it.beside it.disk it.records))
+    server_leaves g.D.Disk.medium _ _ _ (server_keeps _ _ c.requires.stands _ it.beside it.disk it.records)
 
 pub returns-in-Promote-clause-step : goal.returns-in-Promote-clause-step
 returns-in-Promote-clause-step g c =

@@ -15,10 +15,6 @@ returns-clause-step g c =
     (λ wrote. event_steps c.args.event.now (behind c.args.out.now _ _ wrote (rw c.new-said.ensures at c.in_ok-act.ensures.step)))
     c.append_text.ensures.ok
 
-pub returns-clause-stands : goal.returns-clause-stands
-returns-clause-stands g c =
-    on_ok_weaker _ (λ wrote. steps_some c.args.event.now c.requires.stands c.in_ok-act.ensures.step) c.append_text.ensures.ok
-
 pub returns-clause-decided : goal.returns-clause-decided
 returns-clause-decided g c =
     on_ok_weaker c.append_text.result

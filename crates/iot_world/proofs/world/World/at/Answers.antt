@@ -1,5 +1,5 @@
-use Rattle.{iot_server_node.proofs.BeginningLaws.commits_kept, iot_world.proofs.Common.false, iot_world.proofs.Common.on_ok_weaker}
-use Rattle.iot_world.proofs.{Common.refl, DecidingLaws.decides_here, DisksLaws.client_leaves, DisksLaws.server_keeps, DisksLaws.server_same}
+use Rattle.{iot_server_node.proofs.BeginningLaws.commits_kept, iot_world.proofs.Common.false}
+use Rattle.iot_world.proofs.{Common.on_ok_weaker, Common.refl, DisksLaws.client_leaves, DisksLaws.server_keeps, DisksLaws.server_same}
 use Rattle.iot_world.proofs.WorldsLaws.{at_client, at_task, both_ok, link_keeps, node_keeps}
 use Rattle.iot_world.proofs.world.World.at.Goals as goal
 
@@ -8,12 +8,6 @@ returns-in-Node-clause-step g c =
     rw c.in-Node.is
     (both_ok c.befall.result c.befall.ensures.trails c.befall.ensures.step (at_client _ _ _ _ _ _ _ _ (node_keeps c.in-Node.event)
     c.requires.inside c.index_mut-laptop.ensures.value refl c.befall.ensures.place))
-
-pub returns-in-Node-clause-decided : goal.returns-in-Node-clause-decided
-returns-in-Node-clause-decided g c =
-    rw c.in-Node.is
-    (on_ok_weaker c.befall.result (decides_here _ c.args.self.now c.args.client _ _ _ _ c.requires.inside
-    c.index_mut-laptop.ensures.value) c.befall.ensures.decided)
 
 pub returns-in-Node-clause-disks : goal.returns-in-Node-clause-disks
 returns-in-Node-clause-disks g c =

@@ -18,7 +18,8 @@ returns g c =
     record {
       step = on_ok_weaker _ (declares _ _ _ _ _ _ _ _ push taken.items (it.place ∙ at) kept.place it.stands
           (ap stamps_by it.unopened.down) _ _) kept.step;
-      declared = joins g.D.Disk.medium c.args.name.now _ _ _ _ was _ push taken.items started;
+      declared = on_ok_weaker started (λ said. joins g.D.Disk.medium c.args.name.now c.args.self.now c.push_reserved.new.self
+          c.take_first-disk.new.disks _ was _ push taken.items) kept.step;
       disks = joined_leaves _ c.args.name.now _ _ _ _ was _ push taken.items started it.disk kept.disk taken.len taken.capacity
           c.requires.stands;
     }

@@ -1,9 +1,6 @@
 use Rattle.iot_world.proofs.Common.{List, ap, disk_of, rules, sym, with_server, [], ◌∙◌, ◌≡◌}
-use Rattle.iot_world.proofs.{DisksLaws.last_has, DisksLaws.left_one, PlacesLaws.server_list}
+use Rattle.iot_world.proofs.{DisksLaws.left_one, PlacesLaws.server_list}
 use Rattle.iot_world.proofs.world.World.into_disks.Goals as goal
-
-pub into_disk-requires : goal.into_disk-requires
-into_disk-requires g c = last_has _ _ _ c.in-Some.ensures.items c.laptops.invariant.has
 
 pub laptops-preserved : goal.laptops-preserved
 laptops-preserved g c =

@@ -1,21 +1,21 @@
 use Rattle.iot_world.proofs.Common.{arith, refl, []}
-use Rattle.iot_world.proofs.DeclaringLaws.{all_fresh, follows, gives_back, opens, opens_unarmed, rest_fresh}
+use Rattle.iot_world.proofs.DeclaringLaws.{each_fresh, gives_back, opens, opens_has, opens_unarmed}
 use Rattle.iot_world.proofs.world.World.new.Goals as goal
 
 pub take_ends-first-requires : goal.take_ends-first-requires
 take_ends-first-requires g c = omega (arith, c.requires.ten)
 
-pub unopened-server-requires-clause-first : goal.unopened-server-requires-clause-first
-unopened-server-requires-clause-first g c = (all_fresh g.D.Disk.medium _ _ _ _ c.take_ends-first.ensures.items c.requires).0
+pub unopened-requires-clause-first : goal.unopened-requires-clause-first
+unopened-requires-clause-first g c = (each_fresh g.D.Disk.medium _ _ _ _ c.take_ends-first.ensures.items c.requires).0
 
-pub unopened-server-requires-clause-backup : goal.unopened-server-requires-clause-backup
-unopened-server-requires-clause-backup g c = (rest_fresh g.D.Disk.medium _ _ _ _ c.take_ends-first.ensures.items c.requires).1
+pub unopened-requires-clause-backup : goal.unopened-requires-clause-backup
+unopened-requires-clause-backup g c = (each_fresh g.D.Disk.medium _ _ _ _ c.take_ends-first.ensures.items c.requires).2
 
 pub returns-in-Ok-clause-opens : goal.returns-in-Ok-clause-opens
 returns-in-Ok-clause-opens g c =
-    opens g.D.Disk.medium _ _ _ _ c.take_ends-first.ensures.items c.requires _ _ _ _ _ (c.unopened-server.ensures.stands [] 0)
-    (c.open.ensures.beside _ _ c.unopened-server.ensures.beside) (c.in-Ok.ensures.step [] 0)
-    c.new.ensures.items c.new-in-Ok.ensures.items refl c.take_ends-first.ensures.room
+    opens g.D.Disk.medium _ _ _ _ c.take_ends-first.ensures.items c.requires _ _ _ _ _ c.new.ensures.items c.new-2.ensures.items refl
+    (c.unopened.ensures.stands [] 0) c.unopened.ensures.beside c.open.ensures.beside _ _ _ (c.in-Ok.ensures.step [] 0)
+    c.take_ends-first.ensures.room
 
 pub returns-in-Ok-clause-stands : goal.returns-in-Ok-clause-stands
 returns-in-Ok-clause-stands g c =
@@ -27,16 +27,19 @@ returns-in-Ok-clause-has g c = (returns-in-Ok-clause-opens g c).has
 
 pub returns-in-Ok-clause-arms : goal.returns-in-Ok-clause-arms
 returns-in-Ok-clause-arms g c =
-    opens_unarmed g.D.Disk.medium _ _ _ _ c.take_ends-first.ensures.items c.requires _ _ c.unopened-server.ensures.disk
-    c.open.ensures.beside c.open.ensures.disk _ _ c.new.ensures.items refl
+    opens_unarmed g.D.Disk.medium _ _ _ _ c.take_ends-first.ensures.items c.requires _ _ c.new.result c.new-2.result
+    c.take_ends-first.new.disks c.new.ensures.items c.new-2.ensures.items refl (c.unopened.ensures.stands [] 0)
+    c.unopened.ensures.beside c.open.ensures.beside c.unopened.ensures.disk c.open.ensures.disk
 
-pub into_disks-first-requires : goal.into_disks-first-requires
-into_disks-first-requires g c =
-    (follows g.D.Disk.medium _ _ _ _ c.take_ends-first.ensures.items c.requires _ _
-    c.unopened-server.ensures.disk c.open.ensures.beside c.open.ensures.disk).now
+pub into_disks-requires : goal.into_disks-requires
+into_disks-requires g c =
+    opens_has g.D.Disk.medium _ _ _ _ c.take_ends-first.ensures.items c.requires _ _ _ _ _ c.new.ensures.items c.new-2.ensures.items refl
+    (c.unopened.ensures.stands [] 0) c.unopened.ensures.beside c.open.ensures.beside c.take_ends-first.ensures.room
 
 pub returns-in-Err-clause-refused : goal.returns-in-Err-clause-refused
 returns-in-Err-clause-refused g c =
-    gives_back g.D.Disk.medium _ _ _ _ c.take_ends-first.ensures.items c.requires _ _ c.unopened-server.ensures.disk
-    c.open.ensures.beside c.open.ensures.disk g.met.D.Disk.reads_is_image _ _ _ _
-    c.into_disks-first.ensures c.put_ends.ensures (c.unopened-server.ensures.stands [] 0) c.open.ensures.records
+    rw c.into_disks.ensures
+    (gives_back g.D.Disk.medium _ _ _ _ c.take_ends-first.ensures.items c.requires _ _ c.new.result c.new-2.result
+    c.take_ends-first.new.disks c.new.ensures.items c.new-2.ensures.items refl (c.unopened.ensures.stands [] 0)
+    c.unopened.ensures.beside c.open.ensures.beside c.unopened.ensures.disk c.open.ensures.disk
+    g.met.D.Disk.reads_is_image c.open.ensures.records)

@@ -5,7 +5,6 @@ use Rattle.iot_world.proofs.world.World.server_rows.Goals as goal
 pub returns-in-Some : goal.returns-in-Some
 returns-in-Some g c = λ m here.
     let lent = c.in-Some.ensures.lent m here in
-    let rows =
-    c.len.ensures ∙ ap length (c.rows.ensures.rows
-    ∙ ap entries (c.tree.ensures ∙ ap (λ s. (state_of s).tree) c.store.ensures ∙ lent.tree)) in
-    rw lent.alive rows
+    rw lent.alive
+    (c.len.ensures ∙ ap length (c.rows.ensures.rows
+    ∙ ap entries (c.tree.ensures ∙ ap (λ s. (state_of s).tree) c.store.ensures ∙ lent.tree)))
