@@ -1,16 +1,15 @@
 -- A node over any keeper does what the machine's node does.
-use Rattle.std.proofs.Common.{Bool, Err, IsSome, List, None, Ok, Option, Some, ap, arith, codes, false, inl, inr, refl, sym, true, ℕ, []}
-use Rattle.std.proofs.{Common.◌++◌, Common.◌+◌, Common.◌==◌, Common.◌∙◌, Common.◌≡◌, lemmas.Bool.Decides.nat_tests, lemmas.List.append-nil}
+use Rattle.std.proofs.Common.{Bool, Err, IsSome, List, None, Ok, Option, Some, ap, arith, false, inl, inr, refl, sym, true, ℕ, [], ◌++◌}
+use Rattle.std.proofs.{Common.◌+◌, Common.◌==◌, Common.◌∙◌, Common.◌≡◌, lemmas.Bool.Decides.nat_tests, lemmas.List.append-nil}
 use Rattle.iot_disk.specs.{Disk.armed_with, declared.disk.Pick.Pick, declared.faults.StartFault.StartFault}
-use Rattle.iot_machine.proofs.StepsLaws.{asks, at_each, bind, does, quiet, says_this}
+use Rattle.iot_machine.proofs.StepsLaws.{at_each, quiet}
 use Rattle.iot_machine.specs.{Nodes.armed, Nodes.back, Nodes.changed, Nodes.doubting, Nodes.opened, Refining.Refines}
-use Rattle.iot_machine.specs.Stops.{Appends, ArmsDisk, ComesBackAs, Crashes, IsStopped, OpensNode, SettlesAs}
-use Rattle.iot_machine.specs.Texts.{stop_line, stopped_line}
+use Rattle.iot_machine.specs.{Stops.Appends, Stops.ComesBackAs, Stops.IsStopped, Stops.OpensNode, Stops.SettlesAs, Texts.stopped_line}
 use Rattle.iot_node.specs.Disks.{KeepsImages, counts_on}
 use Rattle.iot_node.specs.Keeping.{Appended, Armed, CanStart, Comes, Doubts, EachIs, Failed, Fails, HoldSame, IsEither, Keeping}
 use Rattle.iot_node.specs.Posts.{CameIf, DownStands}
 use Rattle.iot_node.specs.Posts.{HoldsBy, HoldsEither, IsStanding, Lasts, PostStands, Ready, StepsFrom, UpStands, back_said, disk_of, is_on}
-use Rattle.iot_node.specs.Prelude.{Between, Call, Counts, Doubt, Down, Node, Storing, Up, line, next}
+use Rattle.iot_node.specs.Prelude.{Between, Call, Counts, Doubt, Down, Node, Storing, Up, next}
 use Rattle.iot_node.specs.declared.post.{Fallen.Fallen, Post.Post}
 use Rattle.iot_disk.specs.declared.faults.JournalFault.TheVariants as append
 use Rattle.iot_disk.specs.declared.faults.StartFault.TheVariants as start
@@ -37,6 +36,12 @@ next_number number count is = let other : number ≡ count → ⊥ = λ same. om
 pub same_counts : {D I : Type 0} (medium : Storing D I) (old new : D) → medium.faults new ≡ medium.faults old
     → medium.arms new ≡ medium.arms old → counts_on medium new ≡ counts_on medium old
 same_counts medium old new one other = λ i. record { faults = one i; arms = other i }
+
+-- once armed, it counts what the node counts that was armed so
+pub rearms : {S D I : Type 0} (medium : Storing D I) (calls : ℕ) (pick : Pick) (node : Node S) {old new : D}
+    → counts_on medium old ≡ node.counts → Armed medium calls pick old new → counts_on medium new ≡ (armed calls pick node).counts
+rearms medium calls pick node same it =
+    it.is ∙ (λ i. record { faults = (same i).faults; arms = armed_with (same i).arms calls pick })
 
 -- a node that counts what its disk did, and has stopped
 abbrev halted : {S : Type 0} → Node S → Counts → Node S
@@ -96,23 +101,6 @@ module _ {K S D I : Type 0} {disks : K → D} (keeping : Keeping K S D I disks) 
           };
         },
       )
-
-  -- ---- a crash
-
-  pub post_crash_down : {post : Post K D} (name : List ℕ) {x y : List ℕ} → is_on post ≡ false → y ≡ x ++ line (codes "down")
-      → Refines Stands (Crashes name) post post x y tt
-  post_crash_down {post = post} name down wrote =
-      bind {a = false} (asks (λ node here. sym (on_is post node here ∙ down))) (says_this wrote)
-
-  pub post_crash_up : {keeper : K} (name : List ℕ) {x y : List ℕ}
-      → ((n : ℕ) (s : S) → keeping.stands keeper n s → EachIs (medium.may_leave (disks keeper)) (λ image. keeping.image image n s))
-      → y ≡ x ++ line (codes "crash " ++ name)
-      → Refines Stands (Crashes name) (Up keeper) (Down (record { disk = disks keeper; doubt = None })) x y tt
-  post_crash_up {keeper = keeper} name images wrote =
-      bind {v = Up keeper} {a = true} (asks (λ node here. sym here.alive)) (does (λ node here. (
-        wrote,
-        record { alive = refl; counts = here.counts; count = _; holds = record { sure = here.sure; each = images _ _ here.stands } },
-      )))
 
   -- ---- the first start
 
@@ -235,11 +223,6 @@ module _ {K S D I : Type 0} {disks : K → D} (keeping : Keeping K S D I disks) 
 
   -- ---- its disk is armed
 
-  rearms : (calls : ℕ) (pick : Pick) (node : Node S) (old new : D) → counts_on medium old ≡ node.counts → Armed medium calls pick old new
-      → counts_on medium new ≡ (armed calls pick node).counts
-  rearms calls pick node old new same it =
-      it.is ∙ (λ i. record { faults = (same i).faults; arms = armed_with (same i).arms calls pick })
-
   -- it stands for the same node, but for what that counts, if its disks count so
   pub up_counts : {old new : K} {node : Node S} {counts : Counts} → ((n : ℕ) (s : S) → keeping.stands old n s → keeping.stands new n s)
       → counts_on medium (disks new) ≡ counts → UpStands keeping medium says old node
@@ -253,21 +236,6 @@ module _ {K S D I : Type 0} {disks : K → D} (keeping : Keeping K S D I disks) 
   down_counts {doubt = doubt} {node} images same here =
       let on = holds_on _ _ here.count doubt node _ _ (fewer _ _ images.was) here.holds in
       record { alive = here.alive; counts = same; count = here.count; holds = on }
-
-  pub post_arms_up : {old new : K} {calls : ℕ} {pick : Pick} (name : List ℕ) {x y : List ℕ}
-      → ((n : ℕ) (s : S) → keeping.stands old n s → keeping.stands new n s)
-      → Armed medium calls pick (disks old) (disks new) → y ≡ x ++ stop_line name calls pick
-      → Refines Stands (ArmsDisk name calls pick) (Up old) (Up new) x y tt
-  post_arms_up {calls = calls} {pick} name still it wrote =
-      does (λ node here. (wrote, up_counts still (rearms calls pick node _ _ here.counts it) here))
-
-  pub post_arms_down : {old new : D} {doubt : Option Doubt} {calls : ℕ} {pick : Pick} (name : List ℕ) {x y : List ℕ}
-      → KeepsImages (medium.may_leave old) (medium.may_leave new) → Armed medium calls pick old new
-      → y ≡ x ++ stop_line name calls pick
-      → Refines Stands (ArmsDisk name calls pick) (Down (record { disk = old; doubt = doubt }))
-      (Down (record { disk = new; doubt = doubt })) x y tt
-  post_arms_down {calls = calls} {pick} name images it wrote =
-      does (λ node here. (wrote, down_counts images (rearms calls pick node _ _ here.counts it) here))
 
   -- ---- what its disk holds after a start
 

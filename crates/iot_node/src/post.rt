@@ -59,6 +59,7 @@ impl<K: Keeper<P>, P> Post<K, P> {
     }
 
     /// Starts for the first time, at this place among its kind, and tells whether it did. Else it has stopped, which is said.
+    #[tactic(auto, using(crate::proofs::PostsLaws::can_start))]
     pub fn open(
         &mut self,
         alloc: Global,
@@ -179,6 +180,7 @@ impl<K: Keeper<P>, P> Post<K, P> {
 
     /// Comes back so, at its place among its kind, from one of the images that its disks may have, and tells whether it did. Else it has
     /// stopped again, which is said, and what was in doubt still is.
+    #[tactic(auto, using(crate::proofs::PostsLaws::can_start))]
     pub fn come_back(
         &mut self,
         alloc: Global,

@@ -1,15 +1,14 @@
 -- The server's backup: how it is armed, and how the server goes on from it.
-use Rattle.{iot_machine.specs.Nodes.armed, iot_node.proofs.PostsLaws.down_counts, iot_node.proofs.PostsLaws.up_counts}
-use Rattle.{iot_node.specs.Disks.KeepsImages, iot_server_node.proofs.BeginningLaws.lasts_go_on, iot_server_node.proofs.Common.AreSo}
-use Rattle.iot_server_node.proofs.Common.{Bool, ComesBackAs, Commit, Counts, Disks, Doubt, Down, HasAnswered, HoldsBy, Image, KeepsCommits}
-use Rattle.iot_server_node.proofs.Common.{Lasts, List, MayLeave, Medium, Node, None, Option, Pick, Post, PostStands, Refines, ServerKeeper}
-use Rattle.iot_server_node.proofs.Common.{ServerNode, ServerStands, Some, Up, ap, arith, arming_as, counts_on, disk_of, disks_in}
-use Rattle.iot_server_node.proofs.Common.{false, inl, inr, is_on, is_up, kept_text, lists, on_both, option_map, placed, promote_words}
-use Rattle.iot_server_node.proofs.Common.{refl, same_Some, server_name, subst, sym, traffic_in, true, turned_post, ℕ, ◌+◌, ◌∙◌, ◌≡◌}
+use Rattle.{iot_machine.specs.Nodes.armed, iot_server_node.proofs.BeginningLaws.lasts_go_on}
+use Rattle.iot_server_node.proofs.Common.{AreSo, Bool, ComesBackAs, Commit, Counts, Disks, Doubt, Down, HasAnswered, HoldsBy}
+use Rattle.iot_server_node.proofs.Common.{Image, KeepsCommits, Lasts, List, MayLeave, Medium, Node, None, Option, Pick, Post, PostStands}
+use Rattle.iot_server_node.proofs.Common.{Refines, ServerKeeper, ServerNode, ServerStands, Some, ap, arith, arming_as, counts_on}
+use Rattle.iot_server_node.proofs.Common.{disk_of, disks_in, false, inl, inr, is_on, is_up, kept_text, lists, on_both, option_map}
+use Rattle.iot_server_node.proofs.Common.{placed, promote_words, refl, same_Some, server_name, subst, sym, true, ℕ, ◌+◌, ◌∙◌, ◌≡◌}
 use Rattle.iot_server_node.proofs.{PairsLaws.both_so, PairsLaws.other_left, ServersLaws.Posted, ServersLaws.known_comes_back}
 use Rattle.iot_server_node.specs.Disks.{ArmsOther, Sides, other_of, sides, sides_of}
 use Rattle.iot_server_node.specs.Prelude.{Arms, armed_with}
-use Rattle.iot_server_node.specs.Servers.{ArmsServersBackup, HasBackup, HasPlaces, Promotes, given_up_in, is_promoted}
+use Rattle.iot_server_node.specs.Servers.{ArmsServersBackup, HasBackup, HasPlaces, Promotes, given_up_in, is_promoted, turned_post}
 use Rattle.iot_node.specs.Posts as posts
 
 -- ---- which disks there are
@@ -143,18 +142,19 @@ module _ {D : Type 0} (medium : Medium D) (is_image : (disk : D) → medium.may_
         );
   }
 
-  pub promotes_records : (new : ServerNode D)
-      → ((names : List (List ℕ)) (node : Node (List Commit)) → Posted medium names (turned_post old.post) node
+  pub promotes_records : {post : Post (ServerKeeper D) (Disks D)} (new : ServerNode D) → post ≡ turned_post old.post
+      → ((says : List Commit → List Commit → List ℕ) (node : Node (List Commit)) → PostStands (lists medium) (on_both medium) says post node
       → Lasts (lists medium) (on_both medium) new.post node.durable node.doubt) → KeepsCommits medium old new
-  promotes_records new lasts = record {
-    keeps = λ names node n here. lasts_go_on medium names new.post node here.known (lasts names (arming_as arms node) (over here));
+  promotes_records new turned last = record {
+    keeps = λ names node n here.
+        lasts_go_on medium names new.post node here.known (last (kept_text names) (arming_as arms node) (rw turned (over here)));
   }
 
 -- ---- its backup is armed
 
 module _ {D : Type 0} (medium : Medium D) (calls : ℕ) (pick : Pick) where
   -- so it is armed, if it stands for the same node but for what that counts
-  arms_by : (old new : ServerNode D) (was now : Disks D) → ArmsOther medium calls pick was now → disk_of old ≡ Some was
+  pub arms_by : (old new : ServerNode D) (was now : Disks D) → ArmsOther medium calls pick was now → disk_of old ≡ Some was
       → disk_of new ≡ Some now
       → ((names : List (List ℕ)) (node : Node (List Commit)) (n : ℕ) (counts : Counts)
       → (counts_on (on_both medium) was ≡ node.counts → counts_on (on_both medium) now ≡ counts) → ServerStands medium names old node n
@@ -172,27 +172,3 @@ module _ {D : Type 0} (medium : Medium D) (calls : ℕ) (pick : Pick) where
             ∙ ap (λ (c : Counts). record { faults = c.faults; arms = armed_with c.arms calls pick }) counts) here,
         record { is = ap (option_map (sides_of medium)) new_has ∙ ap (λ (s : Sides). Some s) (it.promoted arms same).1 },
       )
-
-  pub arms_up : (was now : ServerKeeper D) → ArmsOther medium calls pick (disks_in was) (disks_in now)
-      → ((n : ℕ) (commits : List Commit) → (lists medium).stands was n commits → (lists medium).stands now n commits)
-      → traffic_in now ≡ traffic_in was → (promoted : Bool)
-      → ArmsServersBackup medium calls pick promoted (record { post = Up was }) (record { post = Up now })
-  arms_up was now it still live =
-      arms_by (record { post = Up was }) (record { post = Up now }) (disks_in was) (disks_in now) it refl refl
-      (λ names node n counts same here. record {
-        post = up_counts (lists medium) (on_both medium) (kept_text names) still (same here.post.counts) here.post;
-        known = here.known;
-        answered = (λ i. (live i).requests) ∙ here.answered;
-      })
-
-  pub arms_down : (was now : Disks D) (doubt : Option Doubt) → ArmsOther medium calls pick was now
-      → KeepsImages (MayLeave medium was) (MayLeave medium now) → (promoted : Bool)
-      → ArmsServersBackup medium calls pick promoted
-      (record { post = Down (record { disk = was; doubt = doubt }) }) (record { post = Down (record { disk = now; doubt = doubt }) })
-  arms_down was now doubt it images =
-      arms_by (record { post = Down (record { disk = was; doubt = doubt }) })
-      (record { post = Down (record { disk = now; doubt = doubt }) }) was now it refl refl (λ names node n counts same here. record {
-        post = down_counts (lists medium) (on_both medium) (kept_text names) images (same here.post.counts) here.post;
-        known = here.known;
-        answered = tt;
-      })

@@ -4,10 +4,10 @@ use Rattle.{iot_durable.proofs.StandingLaws.leads_push, iot_server.specs.Faults.
 use Rattle.iot_server_node.proofs.Common.{Access, CanFollow, Commit, Cuts, Disks, EachStays, Encoded, Handles, If, Image}
 use Rattle.iot_server_node.proofs.Common.{IsAnswered, IsImage, IsMessage, IsRequest, KeepsCommits, Label, Lasts, Leads, List, Medium, Node}
 use Rattle.iot_server_node.proofs.Common.{NodeIsKnown, Option, Post, PostStands, Refuses, Request, ServerIsSound, ServerKeeper, ServerNode}
-use Rattle.iot_server_node.proofs.Common.{ServerStands, Some, StandFor, State, Storing, Two, after_commit, disk_of, disks_in, if_so}
+use Rattle.iot_server_node.proofs.Common.{ServerStands, Some, StandFor, State, Storing, Two, Up, after_commit, disk_of, disks_in, if_so}
 use Rattle.iot_server_node.proofs.Common.{images_of, inl, inr, kept_text, lists, next, on_both, reads_may_leave, refl, request_spelling}
 use Rattle.iot_server_node.proofs.Common.{rules, second_stays, state_of, state_on, store_stays, sym, ℕ, [], ◌++◌, ◌∷◌, ◌≡◌}
-use Rattle.iot_server_node.proofs.{PairsLaws.server_so, PairsLaws.so_as, ServersLaws.lasts, ServersLaws.live, ServersLaws.recorded}
+use Rattle.iot_server_node.proofs.{PairsLaws.server_so, PairsLaws.so_as, ServersLaws.lasts, ServersLaws.recorded}
 use Rattle.iot_server_node.specs.Keepers.{RefusesFor}
 use Rattle.iot_server_node.specs.{Records.DiskGoesOn, Records.EachGoesOn, Records.GoesOnFrom, Records.KeepsRecords, Servers.IsOneMore}
 use Rattle.iot_store.{proofs.PartsLaws.changes_if, proofs.StandingLaws.store_alone, specs.Records.IsRecord, specs.Standing.EachStandsEither}
@@ -81,8 +81,8 @@ module _ {D : Type 0} (medium : Medium D) where
 
 -- ---- a request
 
-module _ {D : Type 0} (medium : Medium D) (is_image : (disk : D) → medium.may_leave disk (medium.reads disk)) (was now : ServerKeeper D)
-    (sound : ServerIsSound medium (live was)) where
+module _ {D : Type 0} (medium : Medium D) (is_image : (disk : D) → medium.may_leave disk (medium.reads disk)) {old : ServerNode D}
+    (was now : ServerKeeper D) (is : old.post ≡ Up was) (sound : ServerIsSound medium old) where
   -- a server on whose disks nothing is under way
   module _ (from : State) (had : EachGoesOn (on_both medium) from (disks_in was)) where
     abbrev before : State
@@ -95,7 +95,7 @@ module _ {D : Type 0} (medium : Medium D) (is_image : (disk : D) → medium.may_
     leads_here : (records : List (List ℕ)) × Leads (rules Two) records from before
     leads_here =
         let first = (had.each _ (reads_may_leave medium is_image (disks_in was))).disk in
-        let same = store_alone medium (servers.store_of was.server) sound.stands.post.stands.synced _ first.stands in
+        let same = store_alone medium (servers.store_of was.server) (rw is at sound.stands.post).stands.synced _ first.stands in
         (first.records, rw same at first.leads)
 
     same_on : {bytes : List ℕ} → StandFor bytes before → GoesOnFrom from bytes
@@ -166,9 +166,9 @@ module _ {D : Type 0} (medium : Medium D) (is_image : (disk : D) → medium.may_
     refused_by asked append.Stopped stops = cut_on stops.0
 
   pub handled_records : {asked reply : List ℕ} → Handles medium asked reply was now
-      → KeepsRecords (on_both medium) (Some (disks_in was)) (Some (disks_in now))
-  handled_records it = record { keeps = λ from had. handled_on from had it }
+      → KeepsRecords (on_both medium) (disk_of old) (Some (disks_in now))
+  handled_records it = record { keeps = λ from had. handled_on from (rw is at had) it }
 
   pub refused_records : {asked : List ℕ} {fault : JournalFault} → Refuses medium asked fault was now
-      → KeepsRecords (on_both medium) (Some (disks_in was)) (Some (disks_in now))
-  refused_records {asked} {fault} it = record { keeps = λ from had. refused_by from had asked fault it.why }
+      → KeepsRecords (on_both medium) (disk_of old) (Some (disks_in now))
+  refused_records {asked} {fault} it = record { keeps = λ from had. refused_by from (rw is at had) asked fault it.why }

@@ -14,12 +14,12 @@ pub use Rattle.iot_node.specs.{Disks.OnlyImage, Disks.counts_on, Keeping.CanStar
 pub use Rattle.iot_node.specs.{Posts.Lasts, Posts.PostStands, Posts.is_on, declared.post.Doubt.Doubt, declared.post.Post.TheVariants.Up}
 pub use Rattle.iot_server.specs.{Replies.IsAnswered, Replies.Submits, declared.server.Server.Server}
 pub use Rattle.iot_server_node.specs.Disks.{Image, MayLeave, MayLeaveOf, faults_in, on_both, other_in, placed, reads_may_leave}
-pub use Rattle.iot_server_node.specs.Keepers.{Both, Cuts, Handles, KeepsList, Refuses, disks_in, lists, traffic_in}
+pub use Rattle.iot_server_node.specs.Keepers.{Both, Cuts, Handles, KeepsList, Refuses, disks_in, lists}
 pub use Rattle.iot_server_node.specs.Prelude.{Commit, Disks, Down, If, IsMessage, IsRequest}
 pub use Rattle.iot_server_node.specs.Prelude.{KeepsDisk, Leads, Medium, Node, Pick, Post, ServerKeeper, ServerNode, State, StepsTo}
 pub use Rattle.iot_server_node.specs.Prelude.{Storing, Two, kept_text, next, request_spelling, rules, server_name, state_of, tree_after}
 pub use Rattle.iot_server_node.specs.{Records.AreImages, Records.AreSo, Servers.HasAnswered, Servers.HavingAnswered}
-pub use Rattle.iot_server_node.specs.Servers.{IsKnown, KeepsCommits, NodeIsKnown, ServerIsSound, ServerStands, disk_of, is_up, turned_post}
+pub use Rattle.iot_server_node.specs.Servers.{IsKnown, KeepsCommits, NodeIsKnown, ServerIsSound, ServerStands, disk_of, is_up}
 pub use Rattle.iot_slots.specs.Decoding.{State as Encoded, decoded}
 pub use Rattle.iot_slots.specs.{Slots.disk_of as disk_on, Slots.state_on, declared.slots.Slots.Slots}
 pub use Rattle.iot_store.proofs.StandingLaws.{second_stays, store_counted, store_stays}

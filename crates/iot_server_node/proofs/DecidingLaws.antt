@@ -57,19 +57,19 @@ module _ {K S P I : Type 0} {disks : K → P} (keeping : Keeping K S P I disks) 
       by_doubt (images fallen.disk) fallen.disk (are fallen.disk) fallen.doubt on node came stopped
   decides_post images are post on node came stopped = tt
 
-module _ {D : Type 0} (medium : Medium D) (names : List (List ℕ)) (node : Node (List Commit)) (x y : List ℕ) where
-  -- by all images of the disk from which it comes back
-  pub decides : (words : List ℕ) (images : Disks D → List ℕ → Type 0)
-      → ((disks : Disks D) (image : Image) → MayLeave medium disks image → images disks image.disk)
-      → (old new : Post (ServerKeeper D) (Disks D)) (on : Bool) → PostStands (lists medium) (on_both medium) (kept_text names) old node
-      → Refines (PostStands (lists medium) (on_both medium) (kept_text names)) (ComesBackAs words server_name (kept_text names)) old new x y
-      on
-      → CameIf (lists medium) (on_both medium) on old words x y node.durable node.doubt
-      → DecidesPost records_in images old words server_name x y
-  decides words images are old new on here step came =
-      let s = step.step node here in
-      decides_post (lists medium) (on_both medium) records_in (λ image. image.disk)
-      (λ image n commits count is has. sym is.disk.many ∙ has.counted)
-      (λ image n commits longer count is has. sym is.disk.many ∙ has.counted)
-      words server_name x y y [] (sym (append-nil y)) images are old on node came
-      (λ off. elim s.3 [ inl back ↦ absurd cc | inr stopped ↦ rw stopped.0 at s.2 ])
+-- by all images of the disk from which it comes back
+pub decides : {D : Type 0} (medium : Medium D) (names : List (List ℕ)) (node : Node (List Commit)) {x y : List ℕ} (words : List ℕ)
+    (images : Disks D → List ℕ → Type 0)
+    → ((disks : Disks D) (image : Image) → MayLeave medium disks image → images disks image.disk)
+    → {old new : Post (ServerKeeper D) (Disks D)} {on : Bool} → PostStands (lists medium) (on_both medium) (kept_text names) old node
+    → Refines (PostStands (lists medium) (on_both medium) (kept_text names)) (ComesBackAs words server_name (kept_text names)) old new x y
+    on
+    → CameIf (lists medium) (on_both medium) on old words x y node.durable node.doubt
+    → DecidesPost records_in images old words server_name x y
+decides medium names node {x} {y} words images are {old} {on = on} here step came =
+    let s = step.step node here in
+    decides_post (lists medium) (on_both medium) records_in (λ image. image.disk)
+    (λ image n commits count is has. sym is.disk.many ∙ has.counted)
+    (λ image n commits longer count is has. sym is.disk.many ∙ has.counted)
+    words server_name x y y [] (sym (append-nil y)) images are old on node came
+    (λ off. elim s.3 [ inl back ↦ absurd cc | inr stopped ↦ rw stopped.0 at s.2 ])

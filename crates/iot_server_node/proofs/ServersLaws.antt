@@ -8,19 +8,19 @@ use Rattle.iot_machine.specs.{Serving.added_text, Stops.ArmsDisk, Stops.Crashes,
 use Rattle.iot_node.proofs.PostsLaws.{lasts_in as posts_lasts_in, on_is}
 use Rattle.iot_node.specs.{Posts.IsStanding, Posts.live_of, declared.post.Post.TheVariants.Between}
 use Rattle.iot_server.specs.{Replies.EncodesAfter, Traffic.no_traffic}
-use Rattle.iot_server_node.proofs.Common.{Access, Appends, AreOf, Bool, Both, Call, CanFollow, ComesBackAs}
-use Rattle.iot_server_node.proofs.Common.{Commit, Differs, Disks, Doubt, Down, Encoded, Handles, HasAnswered, HavingAnswered, Holds}
-use Rattle.iot_server_node.proofs.Common.{HoldsBy, If, Image, IsAnswered, IsGrown, IsImage, IsKnown, KeepsDisk, KeepsList, Label, Lasts}
-use Rattle.iot_server_node.proofs.Common.{Leads, List, MayLeave, Medium, Node, NodeIsKnown, None, Option, Pick, Post, PostStands, Refines}
-use Rattle.iot_server_node.proofs.Common.{Reply, ServerIsSound, ServerKeeper, ServerNode, ServerStands, Some, State, StepsTo, Storing}
-use Rattle.iot_server_node.proofs.Common.{Submits, Two, Up, add_commit, after_commit, ap, arith, changed, commit_text, counts_on, disk_of}
-use Rattle.iot_server_node.proofs.Common.{disks_in, false, header, if_so, inl, inr, is_on, is_up, kept_text, length, length-append, lists}
-use Rattle.iot_server_node.proofs.Common.{next, number_in, on_both, placed, refl, renewed_list, rules, server_name, state_is, state_of}
-use Rattle.iot_server_node.proofs.Common.{store_counted, subst, sym, traffic_in, tree_after, true, ℕ, [], ◌++◌, ◌+◌, ◌∙◌, ◌∷◌, ◌≡◌}
+use Rattle.iot_server_node.proofs.Common.{Access, Appends, AreOf, Bool, Both, Call, CanFollow}
+use Rattle.iot_server_node.proofs.Common.{ComesBackAs, Commit, Differs, Disks, Doubt, Down, Encoded, Handles, HasAnswered, HavingAnswered}
+use Rattle.iot_server_node.proofs.Common.{Holds, HoldsBy, If, Image, IsAnswered, IsGrown, IsImage, IsKnown, KeepsDisk, KeepsList}
+use Rattle.iot_server_node.proofs.Common.{Label, Lasts, Leads, List, MayLeave, Medium, Node, NodeIsKnown, None, Option, Pick, Post}
+use Rattle.iot_server_node.proofs.Common.{PostStands, Refines, Reply, ServerIsSound, ServerKeeper, ServerNode, ServerStands, Some, State}
+use Rattle.iot_server_node.proofs.Common.{StepsTo, Storing, Submits, Two, Up, add_commit, after_commit, ap, arith, changed, commit_text}
+use Rattle.iot_server_node.proofs.Common.{counts_on, disk_of, disks_in, false, header, if_so, inl, inr, is_on, is_up, kept_text, length}
+use Rattle.iot_server_node.proofs.Common.{length-append, lists, next, number_in, on_both, placed, refl, renewed_list, rules, server_name}
+use Rattle.iot_server_node.proofs.Common.{state_is, state_of, store_counted, subst, sym, tree_after, true, ℕ, [], ◌++◌, ◌+◌, ◌∙◌, ◌∷◌, ◌≡◌}
 use Rattle.iot_server_node.proofs.{CountsLaws.kept_counts, DisksLaws.both_only, KeepersLaws.each_on, KeepersLaws.keeps_images}
-use Rattle.iot_server_node.{proofs.KeepersLaws.one_counted, proofs.PairsLaws.both_so, specs.Prelude.IsEmpty, specs.Servers.AreKnown}
-use Rattle.{iot_server_node.specs.Servers.IsUnopened, iot_slots.specs.Decoding.NotStarted, iot_slots.specs.Decoding.decoded}
-use Rattle.iot_store.proofs.{NumbersLaws.is_new_from, StandingLaws.grown_count}
+use Rattle.iot_server_node.{proofs.KeepersLaws.one_counted, proofs.PairsLaws.both_so, specs.Keepers.traffic_in, specs.Prelude.IsEmpty}
+use Rattle.{iot_server_node.specs.Servers.AreKnown, iot_server_node.specs.Servers.IsUnopened, iot_slots.specs.Decoding.NotStarted}
+use Rattle.{iot_slots.specs.Decoding.decoded, iot_store.proofs.NumbersLaws.is_new_from, iot_store.proofs.StandingLaws.grown_count}
 use Rattle.iot_server.specs.Servers as servers
 use Rattle.iot_node.specs.Posts as posts
 use Rattle.iot_wire.specs.declared.requests.Request.TheVariants as requests
@@ -291,6 +291,9 @@ pub is_ready : {D : Type 0} (medium : Medium D) (server : ServerNode D) → IsUn
     → posts.Ready (on_both medium) server.post
 is_ready medium server never =
     rw never.down (refl, both_only medium (placed false never.first never.backup) never.empty.synced never.empty_backup.synced)
+
+-- so it can start
+pub ruleset can_open = (is_standing, is_ready)
 
 -- ---- one client more is declared
 

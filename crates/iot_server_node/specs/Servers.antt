@@ -1,6 +1,6 @@
 -- The server as a node, alive or down: for which node of the machine it stands, and what it does.
 use Rattle.std.specs.List.{AllByRecursion}
-use Rattle.std.specs.Prelude.{IsSome, map, slice_index_or, ◌%◌, ◌++◌, ◌+◌, ◌<◌, ◌^◌, ◌∷◌, ◌≡◌}
+use Rattle.std.specs.Prelude.{map, slice_index_or, ◌%◌, ◌++◌, ◌+◌, ◌<◌, ◌^◌, ◌∷◌, ◌≡◌}
 use Rattle.iot_access.specs.Access.{access_of, lines_of}
 use Rattle.{iot_acts.specs.Turns.reads_of, iot_exec.specs.Serial.run_entry, iot_judging.specs.Entries.IsSpelledEntry}
 use Rattle.iot_machine.specs.{Calls.Call, Nodes.armed, Nodes.arming_as, Recorded.label_of, Stops.ComesBackAs}
@@ -31,10 +31,6 @@ is_up server = is_on server.post
 -- its disks, which it has except inside a call that starts or stops it
 abbrev pub disk_of : {D : Type 0} → ServerNode D → Option (Disks D)
 disk_of server = posts.disk_of disks_in server.post
-
--- it has its disks
-abbrev pub HasDisk : {D : Type 0} → ServerNode D → Type 0
-HasDisk server = IsSome (disk_of server)
 
 -- whether its backup was promoted: a disk was given up then
 abbrev pub given_up_in : {D : Type 0} → Option (Disks D) → Bool

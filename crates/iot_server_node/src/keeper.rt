@@ -83,6 +83,7 @@ impl<D: Disk> Keeper<Disks<D>> for ServerKeeper<D> {
 
     ghost beside = { sides_of D.medium };
 
+    #[tactic(auto, using(crate::proofs::StartingLaws::only_first, crate::proofs::StartingLaws::only_second))]
     fn start(alloc: Global, disk: Disks<D>, _place: u64) -> Result<Self, (Disks<D>, StartFault)> {
         let Disks {
             disk,

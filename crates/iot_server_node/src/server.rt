@@ -1,6 +1,6 @@
 //! The server as a node: it answers requests as long as it is alive.
 ghost use Rattle.std.specs.Option.{option_copied};
-ghost use Rattle.std.specs.Prelude.{IfSome, codes, ◌++◌, ◌+◌, ◌<◌, ◌^◌, ◌≡◌, ◌⊎◌};
+ghost use Rattle.std.specs.Prelude.{IfSome, IsSome, codes, ◌++◌, ◌+◌, ◌<◌, ◌^◌, ◌≡◌, ◌⊎◌};
 ghost use Rattle.{iot_disk.specs.declared.faults.JournalFault.TheVariants.Stopped, iot_judging.specs.Errands.IsErrand};
 ghost use Rattle.iot_machine.specs.{Machine.add_commit, Nodes.doubting, Nodes.paired, Nodes.unopened, Serving.Judges, Serving.Lends};
 ghost use Rattle.iot_machine.specs.{Serving.backup_name, Stops.ArmsDisk, Stops.Crashes, Stops.OpensNode, Stops.Restarts, Stops.Shows};
@@ -43,7 +43,7 @@ pub struct Served {
 impl<D: Disk> ServerNode<D> {
     ghost use Rattle.iot_judging.specs.Verdicts.{SpellsVerdict};
     ghost use Rattle.iot_server_node.specs.Messages.{IsSomeRequest, SpellsCut};
-    ghost use Rattle.iot_server_node.specs.Servers.{ArmsServersBackup, HasBackup, HasDisk, HasDisks, HasPlaces, HavingAnswered};
+    ghost use Rattle.iot_server_node.specs.Servers.{ArmsServersBackup, HasBackup, HasDisks, HasPlaces, HavingAnswered};
     ghost use Rattle.iot_server_node.specs.Servers.{IsBeside, IsHanded, IsNamedIn, IsUnopened, KeepsBeside, KeepsCommits, LendsServer};
     ghost use Rattle.iot_server_node.specs.Servers.{Promotes, ServerIsSound, ServerStands, ServesBy, TurnsToBackup, answered_since};
     ghost use Rattle.iot_server_node.specs.Servers.{count_of, disk_of, is_promoted, is_up, lent_of, post_of, stamps_of, turned_post};
@@ -69,7 +69,7 @@ impl<D: Disk> ServerNode<D> {
     }
 
     /// Starts for the first time, and tells whether it did. Else it has stopped, which is said.
-    #[tactic(auto, using(crate::proofs::ServersLaws::is_standing, crate::proofs::BeginningLaws::commits_last))]
+    #[tactic(auto, using(crate::proofs::ServersLaws::can_open, crate::proofs::BeginningLaws::commits_last))]
     pub fn open(&mut self, alloc: Global, out: &mut Text) -> Result<bool, NoMemory>
         requires { IsUnopened D.medium self.old }
         ensures step { IfOk result (λ on. (names : List (List ℕ)) (n : ℕ)
@@ -142,7 +142,7 @@ impl<D: Disk> ServerNode<D> {
 
     /// Loses its memory: what is not on its disks is gone.
     pub fn crash(&mut self, out: &mut Text) -> Result<(), NoMemory>
-        requires { HasDisk self.old }
+        requires { IsSome (disk_of self.old) }
         ensures step { OnOk result ((names : List (List ℕ)) (n : ℕ)
             → StepsTo (HavingAnswered D.medium names n) (HavingAnswered D.medium names n) (Crashes server_name)
             self.old self.new out.old out.new tt) }

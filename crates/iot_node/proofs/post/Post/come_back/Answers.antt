@@ -1,5 +1,5 @@
 use Rattle.std.proofs.Common.{inr, refl, sym, ◌∙◌}
-use Rattle.{iot_machine.specs.Stops.ComesBackAs, iot_node.proofs.PostsLaws.came, iot_node.proofs.PostsLaws.can_start}
+use Rattle.{iot_machine.specs.Stops.ComesBackAs, iot_node.proofs.PostsLaws.came}
 use Rattle.iot_node.{proofs.PostsLaws.lasts_up, proofs.PostsLaws.post_back, proofs.PostsLaws.post_stops_again, specs.Posts.words_of}
 use Rattle.iot_node.proofs.post.Post.come_back.Goals as goal
 
@@ -30,7 +30,3 @@ returns-in_ok-say_refused-in-Err-clause-step g c says =
     rw c.turn_to-in-Err.ensures (post_stops_again _ _ says (ComesBackAs (words_of c.args.by c.args.name.now) c.args.name.now says)
     c.args.name.now (sym c.replace.ensures.value ∙ c.in-Down.is) c.restart.ensures.image (cc) c.in-Err.ensures.fails
     c.in_ok-say_refused-in-Err.ensures.stopped (λ node n is. inr (refl, refl, is)) c.in_ok-say_refused-in-Err.ensures.says)
-
-pub start-requires-clause-can : goal.start-requires-clause-can
-start-requires-clause-can g c =
-    can_start _ _ (sym c.replace.ensures.value ∙ c.in-Down.is) c.requires.stands c.restart.ensures.image

@@ -1,5 +1,5 @@
 use Rattle.{std.proofs.Common.inr, std.proofs.Common.refl, std.proofs.Common.sym, std.proofs.Common.◌∙◌, iot_machine.specs.Stops.OpensNode}
-use Rattle.iot_node.proofs.PostsLaws.{can_start, lasts_up, post_opens, post_stops_again}
+use Rattle.iot_node.proofs.PostsLaws.{lasts_up, post_opens, post_stops_again}
 use Rattle.iot_node.proofs.post.Post.open.Goals as goal
 
 pub returns-in-Ok-clause-step : goal.returns-in-Ok-clause-step
@@ -17,7 +17,3 @@ returns-in_ok-say_refused-in-Err-clause-step g c says =
     rw c.turn_to-in-Err.ensures (post_stops_again _ _ says (OpensNode c.args.name.now) c.args.name.now
     (sym c.replace.ensures.value ∙ c.in-Down.is) (g.met.K.Keeper.reads_is_image c.in-Down.field-0.disk) refl c.in-Err.ensures.fails
     c.in_ok-say_refused-in-Err.ensures.stopped (λ node n is. inr (refl, refl, is)) c.in_ok-say_refused-in-Err.ensures.says)
-
-pub start-requires-clause-can : goal.start-requires-clause-can
-start-requires-clause-can g c =
-    can_start _ _ (sym c.replace.ensures.value ∙ c.in-Down.is) c.requires.stands (g.met.K.Keeper.reads_is_image c.in-Down.field-0.disk)

@@ -1,15 +1,8 @@
 use Rattle.iot_server_node.proofs.{KeepersLaws.stands_for, PairsLaws.may_start}
-use Rattle.iot_server_node.proofs.StartingLaws.{alone_comes, alone_fails, is_there, only_first, only_second, pair_comes, pair_fails}
+use Rattle.iot_server_node.proofs.StartingLaws.{alone_comes, alone_fails, is_there, pair_comes, pair_fails}
 use Rattle.iot_server_node.proofs.keeper.ServerKeeperKeeperDisks.start.Goals as goal
 
 -- ---- from a disk and its backup
-
-pub start_pair-requires-clause-first : goal.start_pair-requires-clause-first
-start_pair-requires-clause-first g c = only_first g.D.Disk.medium g.met.D.Disk.reads_is_image c.args.disk c.requires.only
-
-pub start_pair-requires-clause-second : goal.start_pair-requires-clause-second
-start_pair-requires-clause-second g c =
-    only_second g.D.Disk.medium g.met.D.Disk.reads_is_image c.args.disk c.requires.only c.in-Some.backup c.in-Some.is
 
 pub start_pair-requires-clause-together : goal.start_pair-requires-clause-together
 start_pair-requires-clause-together g c short state stands step =
@@ -35,9 +28,6 @@ returns-in-Disk-clause-fails g c =
     (record { brings = it.second_images; encodes = it.second_encodes; follows = it.follows }) (rw c.in-Disk.is at it.cause) it.first_arms
 
 -- ---- from a disk that is alone
-
-pub start-requires : goal.start-requires
-start-requires g c = only_first g.D.Disk.medium g.met.D.Disk.reads_is_image c.args.disk c.requires.only
 
 pub returns-in-Ok-start-clause-comes : goal.returns-in-Ok-start-clause-comes
 returns-in-Ok-start-clause-comes g c =

@@ -1,9 +1,6 @@
 use Rattle.iot_server_node.proofs.{Common.kept_text, KeepersLaws.if_ok_both}
-use Rattle.iot_server_node.proofs.ServersLaws.{answered_fresh, is_ready, known_opens, with_known}
+use Rattle.iot_server_node.proofs.ServersLaws.{answered_fresh, known_opens, with_known}
 use Rattle.iot_server_node.proofs.server.ServerNode.open.Goals as goal
-
-pub open-requires-clause-ready : goal.open-requires-clause-ready
-open-requires-clause-ready g c = is_ready g.D.Disk.medium c.args.self.now c.requires
 
 pub returns-clause-step : goal.returns-clause-step
 returns-clause-step g c =

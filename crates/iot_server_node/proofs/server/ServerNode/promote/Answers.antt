@@ -1,5 +1,5 @@
-use Rattle.iot_server_node.proofs.{BackupLaws.over, BackupLaws.promotes, BackupLaws.promotes_records, Common.arming_as, Common.kept_text}
-use Rattle.iot_server_node.proofs.{Common.promote_words, Common.turned_post, DecidingLaws.decides, ServersLaws.answered_fresh}
+use Rattle.iot_server_node.proofs.{BackupLaws.over, BackupLaws.promotes, BackupLaws.promotes_records, Common.arming_as}
+use Rattle.iot_server_node.proofs.{Common.kept_text, Common.promote_words, DecidingLaws.decides, ServersLaws.answered_fresh}
 use Rattle.iot_server_node.proofs.server.ServerNode.promote.Goals as goal
 
 pub come_back-requires-clause-stands : goal.come_back-requires-clause-stands
@@ -30,19 +30,16 @@ returns-clause-decided g c own =
     let node = arming_as (g.D.Disk.medium.arms it.last) sound.node in
     let stands = over g.D.Disk.medium g.met.D.Disk.reads_is_image it sound.stands in
     let decided =
-    decides g.D.Disk.medium sound.names node c.args.out.now c.come_back.new.out promote_words
-    (λ disks image. g.D.Disk.medium.may_leave disks.disk image) (λ disks image left. left.disk) (turned_post c.args.self.now.post)
-    c.come_back.new.self c.in_ok-come_back.field-0 stands
+    decides g.D.Disk.medium sound.names node promote_words (λ disks image. g.D.Disk.medium.may_leave disks.disk image)
+    (λ disks image left. left.disk) stands
     (rw c.turn.ensures.turned at (c.in_ok-come_back.ensures.step (kept_text sound.names)))
     ((rw c.turn.ensures.turned at (c.in_ok-come_back.ensures.came (kept_text sound.names))) node stands) in
     rw it.is (rw it.is at decided)
 
 pub returns-clause-records : goal.returns-clause-records
 returns-clause-records g c =
-    promotes_records g.D.Disk.medium g.met.D.Disk.reads_is_image c.turn.ensures.down (record { post = c.come_back.new.self })
-    (λ names. rw c.turn.ensures.turned at (c.come_back.ensures.lasts (kept_text names)))
+    promotes_records g.D.Disk.medium g.met.D.Disk.reads_is_image c.turn.ensures.down _ c.turn.ensures.turned c.come_back.ensures.lasts
 
 pub returns-in_err-come_back-clause-records : goal.returns-in_err-come_back-clause-records
 returns-in_err-come_back-clause-records g c =
-    promotes_records g.D.Disk.medium g.met.D.Disk.reads_is_image c.turn.ensures.down (record { post = c.come_back.new.self })
-    (λ names. rw c.turn.ensures.turned at (c.come_back.ensures.lasts (kept_text names)))
+    promotes_records g.D.Disk.medium g.met.D.Disk.reads_is_image c.turn.ensures.down _ c.turn.ensures.turned c.come_back.ensures.lasts

@@ -16,9 +16,9 @@ returns-clause-step g c names n =
 pub returns-clause-decided : goal.returns-clause-decided
 returns-clause-decided g c =
     let sound = c.requires in
-    decides g.D.Disk.medium sound.names sound.node c.args.out.now c.come_back.new.out (restart_words server_name)
-    (images_for g.D.Disk.medium Restart) (λ disks image left. left.disk) c.args.self.now.post c.come_back.new.self
-    c.in_ok-come_back.field-0 sound.stands.post (c.in_ok-come_back.ensures.step (kept_text sound.names))
+    decides g.D.Disk.medium sound.names sound.node (restart_words server_name) (images_for g.D.Disk.medium Restart)
+    (λ disks image left. left.disk) sound.stands.post
+    (c.in_ok-come_back.ensures.step (kept_text sound.names))
     (c.in_ok-come_back.ensures.came (kept_text sound.names) sound.node sound.stands.post)
 
 pub returns-in_err-say-clause-disk : goal.returns-in_err-say-clause-disk

@@ -3,9 +3,6 @@ use Rattle.iot_server_node.proofs.{BeginningLaws.refused_records, Common.kept_te
 use Rattle.iot_server_node.proofs.ServingLaws.{judges, judges_stopped, lends, lends_always, stays_stamped}
 use Rattle.iot_server_node.proofs.server.ServerNode.serve.Goals as goal
 
-pub handle-answer-requires-clause-synced : goal.handle-answer-requires-clause-synced
-handle-answer-requires-clause-synced g c = (rw c.in-Up.is at c.requires.sound.stands.post).stands.synced
-
 -- ---- it has replied
 
 pub returns-in-Ok-clause-lends : goal.returns-in-Ok-clause-lends
@@ -29,8 +26,7 @@ returns-in-Ok-clause-judges g c it names hands named =
 
 pub returns-in-Ok-clause-records : goal.returns-in-Ok-clause-records
 returns-in-Ok-clause-records g c =
-    rw c.in-Up.is (handled_records g.D.Disk.medium g.met.D.Disk.reads_is_image c.in-Up.keeper _
-    (rw (live_is c.in-Up.is) at c.requires.sound) c.in-Ok.ensures.handled)
+    handled_records g.D.Disk.medium g.met.D.Disk.reads_is_image _ _ c.in-Up.is c.requires.sound c.in-Ok.ensures.handled
 
 -- ---- it gave no reply
 
@@ -54,15 +50,12 @@ returns-in-Err-Over-clause-judges g c it names hands named =
 
 pub returns-in_err-doubt-in-Err-clause-records : goal.returns-in_err-doubt-in-Err-clause-records
 returns-in_err-doubt-in-Err-clause-records g c =
-    rw c.in-Up.is (refused_records g.D.Disk.medium g.met.D.Disk.reads_is_image c.in-Up.keeper _
-    (rw (live_is c.in-Up.is) at c.requires.sound) c.in-Err.ensures.refused)
+    refused_records g.D.Disk.medium g.met.D.Disk.reads_is_image _ _ c.in-Up.is c.requires.sound c.in-Err.ensures.refused
 
 pub returns-in-Err-Over-clause-records : goal.returns-in-Err-Over-clause-records
-returns-in-Err-Over-clause-records g c =
-    rw (c.in-Up.is, c.take.ensures.disk) (refused_records g.D.Disk.medium g.met.D.Disk.reads_is_image c.in-Up.keeper _
-    (rw (live_is c.in-Up.is) at c.requires.sound) c.in-Err.ensures.refused)
+returns-in-Err-Over-clause-records g c = rw c.take.ensures.disk
+    (refused_records g.D.Disk.medium g.met.D.Disk.reads_is_image _ _ c.in-Up.is c.requires.sound c.in-Err.ensures.refused)
 
 pub returns-in-Err-NoMemory-clause-records : goal.returns-in-Err-NoMemory-clause-records
-returns-in-Err-NoMemory-clause-records g c =
-    rw (c.in-Up.is, c.take.ensures.disk) (refused_records g.D.Disk.medium g.met.D.Disk.reads_is_image c.in-Up.keeper _
-    (rw (live_is c.in-Up.is) at c.requires.sound) c.in-Err.ensures.refused)
+returns-in-Err-NoMemory-clause-records g c = rw c.take.ensures.disk
+    (refused_records g.D.Disk.medium g.met.D.Disk.reads_is_image _ _ c.in-Up.is c.requires.sound c.in-Err.ensures.refused)
