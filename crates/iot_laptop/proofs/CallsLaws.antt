@@ -1,37 +1,34 @@
 -- What the server's replies bring and say, and what a call of a laptop that appends a record makes of the client of the machine: its
 -- change, or a stop in it; and what a held tree has of a server's stamps through that.
-use Rattle.iot_access.specs.Access.{access_of}
-use Rattle.iot_changes.specs.declared.changes.Change.{Change, TheVariants.Left, TheVariants.Repaired, TheVariants.Resolved}
-use Rattle.iot_client.proofs.TrailsLaws.{nothing_trails, same_changes}
-use Rattle.iot_client.specs.Calls.{Brings, CutsOffByRun, CutsOffByTree, CutsOffByVerdict, CutsOffRerun, IsHeadsRun, RefusesReply, Reruns}
-use Rattle.iot_client.specs.{Calls.Resolves, Calls.verdict_change, Faults.CountsFault}
-use Rattle.iot_client.specs.Messages.{Makes, ReadsNoted, ReadsObjects, no_changes, no_tree, noted_in, objects_in}
-use Rattle.iot_client.specs.declared.noted.Noted.{Noted as NotedIn}
+use Rattle.{iot_access.specs.Access.access_of, iot_changes.specs.declared.changes.Change.Change}
+use Rattle.{iot_changes.specs.declared.changes.Change.TheVariants.Resolved, iot_client.proofs.TrailsLaws.nothing_trails}
+use Rattle.iot_client.{proofs.TrailsLaws.same_changes, specs.Calls.Brings, specs.Calls.CutsOffByRun, specs.Calls.CutsOffByTree}
+use Rattle.iot_client.specs.Calls.{CutsOffByVerdict, CutsOffRerun, IsHeadsRun, RefusesReply, Reruns, Resolves, verdict_change}
+use Rattle.iot_client.specs.{Faults.CountsFault, Messages.Makes, Messages.ReadsNoted, Messages.ReadsObjects, Messages.no_changes}
+use Rattle.iot_client.specs.{Messages.no_tree, Messages.noted_in, Messages.objects_in, declared.noted.Noted.Noted as NotedIn}
 use Rattle.iot_kept.proofs.{BringingLaws.base_spelled, BringingLaws.brought_spelled, SyncedLaws.synced_spelled, TrailsLaws.IsOwn}
-use Rattle.iot_kept.specs.Bringing.{base_for, bringing, brought_for}
-use Rattle.{iot_kept.specs.declared.bringing.Purpose.Purpose, iot_laptop.proofs.Common.AreNamed}
-use Rattle.iot_laptop.proofs.Common.{Before, Besides, Bool, Call, CanFollow, Client, ClientFault, ClientStands, ClientState}
-use Rattle.iot_laptop.proofs.Common.{Code, CutsOff, Declared, EndsAlone, Err, Halt, IfErr, IfOk, IfOk-at_ok, IfOk-weaker, IsErrOf}
-use Rattle.iot_laptop.proofs.Common.{IsLent, IsScript, IsTied, IsTree, Item, KeepsTrails, KeptLive, Laptop, LaptopStands, no_text, seating}
-use Rattle.iot_laptop.proofs.Common.{List, Live, MayFail, Medium, NoMemory, Node, None, Notes, NotesAlone, Ok, OnOk, Option, Over, Post}
-use Rattle.iot_laptop.proofs.Common.{Result, Seated, Some, State, StateKept, StateStands, StepFrom, StepsFrom, StepsTo, Stopped}
-use Rattle.iot_laptop.proofs.Common.{UnlessNoMemory, Up, UpStands, Writes, acts_in, after, answers, ap, at_each, besides, bind, disk_of}
-use Rattle.iot_laptop.proofs.Common.{done, false, head_of, if◌then◌else◌, inl, inr, is_alive, is_on, live_by, live_in, live_of, lives_then}
-use Rattle.iot_laptop.proofs.Common.{none_besides, place_of, possibly_sure, reads_of, records_of, refl, rules, same_Some, same_counts}
-use Rattle.iot_laptop.proofs.Common.{stamps_by, stamps_in, stamps_of, stands_so, state_in, state_of, subst, sym, true, ℕ, [], ◌∙◌, ◌∷◌, ◌≡◌}
+use Rattle.iot_kept.specs.{Bringing.base_for, Bringing.bringing, Bringing.brought_for, declared.bringing.Purpose.Purpose}
+use Rattle.iot_laptop.proofs.Common.{AreNamed, Before, Besides, Bool, Call, CanFollow, Client}
+use Rattle.iot_laptop.proofs.Common.{ClientFault, ClientStands, ClientState, Code, CutsOff, Declared, EndsAlone, Err, Halt, IfErr, IfOk}
+use Rattle.iot_laptop.proofs.Common.{IfOk-at_ok, IfOk-weaker, IsErrOf, IsLent, IsScript, IsTied, IsTree, KeepsDisk, KeepsTrails, KeptLive}
+use Rattle.iot_laptop.proofs.Common.{Laptop, LaptopStands, List, Live, MayFail, Medium, NoMemory, Node, None, Notes, NotesAlone, Ok, OnOk}
+use Rattle.iot_laptop.proofs.Common.{Option, Over, Post, Result, Seated, Some, State, StateKept, StateStands, StepFrom, StepsFrom, StepsTo}
+use Rattle.iot_laptop.proofs.Common.{Stopped, UnlessNoMemory, Up, UpStands, Writes, after, answers, ap, at_each, besides, bind, disk_of}
+use Rattle.iot_laptop.proofs.Common.{done, false, if◌then◌else◌, inl, inr, is_alive, is_on, leave, live_by, live_in, live_of, lives_then}
+use Rattle.iot_laptop.proofs.Common.{no_text, none_besides, place_of, possibly_sure, records_of, refl, repair, rules, same_counts}
+use Rattle.iot_laptop.proofs.Common.{seating, stamps_by, stamps_in, stamps_of, stands_so, state_in, state_of, subst, sym, true, ℕ, ◌∙◌, ◌≡◌}
 use Rattle.iot_laptop.proofs.NodesLaws.{Posted, at_node, awake_at, not_both, stands_at, up_stands}
-use Rattle.iot_laptop.{proofs.SeatsLaws.besides_again, proofs.SeatsLaws.fresh_lent, specs.Below.Nodes, specs.Below.Plan, specs.Below.Read}
-use Rattle.iot_laptop.specs.{Below.SpellsVerdict, Below.Stamps, Below.brought, Below.nothing_held, Calls.Changes, Calls.GoesOn, Calls.Plans}
-use Rattle.iot_laptop.specs.Calls.{Repairs, TakesReply, TakesStamps, TakesVerdict, appended, head_reads}
-use Rattle.iot_laptop.{proofs.Common.KeepsDisk, specs.Laptops.disk_in, specs.Laptops.records_by}
-use Rattle.{iot_laptop.specs.Laptops.records_in, iot_laptop.specs.Messages.SpellsTree, iot_limits.proofs.TreesLaws.tree_spelled}
-use Rattle.{iot_limits.specs.Spelled.IsSpelledTree, iot_machine.proofs.PossiblyLaws.appends_possibly}
-use Rattle.iot_machine.specs.{Clients.leave, Clients.reach, Clients.repair, Clients.resolution_of, Nodes.changed, Stops.Appends}
-use Rattle.{iot_node.specs.Keeping.Appended, iot_node.specs.Posts.Answered, iot_queue.specs.declared.items.Resolution.Resolution}
-use Rattle.{iot_slots.specs.Cells.next as next_count, iot_stamp.proofs.TrailsLaws.none_trails, iot_stamp.proofs.TrailsLaws.same_stamps}
-use Rattle.iot_stamp.{proofs.TrailsLaws.same_trails, specs.Stamps.nodes_of, specs.Trails.KeepsTrail, specs.Trails.Trails}
-use Rattle.iot_standing.proofs.KeptLaws.{left_live, noted_as, repaired_live, resolved_live, told_live}
-use Rattle.iot_standing.specs.States.{head_option, told_change}
+use Rattle.iot_laptop.proofs.SeatsLaws.{besides_again, fresh_lent}
+use Rattle.iot_laptop.specs.Below.{Nodes, Read, SpellsVerdict, Stamps, brought, nothing_held}
+use Rattle.iot_laptop.specs.Calls.{Changes, GoesOn, Plans, Repairs, TakesReply, TakesStamps, TakesVerdict, appended, head_reads}
+use Rattle.iot_laptop.specs.{Laptops.disk_in, Laptops.records_by, Laptops.records_in, Messages.SpellsTree}
+use Rattle.iot_limits.{proofs.TreesLaws.tree_spelled, specs.Spelled.IsSpelledTree}
+use Rattle.iot_machine.{proofs.PossiblyLaws.appends_possibly, specs.Clients.reach, specs.Clients.resolution_of, specs.Nodes.changed}
+use Rattle.{iot_machine.specs.Stops.Appends, iot_node.specs.Keeping.Appended}
+use Rattle.{iot_node.specs.Posts.Answered, iot_queue.specs.declared.items.Resolution.Resolution, iot_slots.specs.Cells.next as next_count}
+use Rattle.iot_stamp.proofs.TrailsLaws.{none_trails, same_trails}
+use Rattle.iot_stamp.specs.{Stamps.nodes_of, Trails.KeepsTrail, Trails.Trails}
+use Rattle.iot_standing.{proofs.KeptLaws.noted_as, proofs.KeptLaws.resolved_live, proofs.KeptLaws.told_live, specs.States.told_change}
 use Rattle.{iot_tree.specs.declared.changes.Changes.Changes as RowChanges, iot_views.specs.Rules.IsTreeOfRows}
 use Rattle.iot_wire.specs.declared.replies.Reply.TheVariants.{Already, Committed, Conflict}
 use Rattle.iot_disk.specs.declared.faults.JournalFault.TheVariants as append
@@ -71,22 +68,13 @@ none_bad old new Passes {held} {reply} {t} only spells passes None none answer r
     by (Err (faults.BadReply at)) refuses = absurd (not_refused at refuses.0)
     by (Err other) refuses = absurd refuses
 
--- ---- the first that waits
-
--- what the first that waits has read, and its option
-pub head_has : (items : List Item) (item : Item) → head_of items ≡ Some item
-    → (head_reads items ≡ reads_of (acts_in item item.stage)) × (head_option items ≡ Some item.option)
-head_has [] item is = absurd cc
-head_has (head ∷ items) item is =
-    let same = same_Some head item is in
-    (ap (λ (i : Item). reads_of (acts_in i i.stage)) same, ap (λ (i : Item). Some i.option) same)
-
 -- ---- answers
 
 -- an answer that was done
 pub was_ok : {T : Type 0} (answer : Result T ClientFault) (t : T) → appended answer ≡ Ok t → answer ≡ Ok t
 was_ok (Ok u) t is = cc
-was_ok (Err fault) t is = absurd cc
+was_ok (Err Stopped) t is = absurd cc
+was_ok (Err other) t is = absurd cc
 
 pub was_stopped : {T : Type 0} (answer : Result T ClientFault) → appended answer ≡ Err append.Stopped → IsErrOf answer Stopped
 was_stopped (Err Stopped) is = refl
@@ -153,10 +141,6 @@ pub off_trails : {D : Type 0} (old new : Laptop D) → is_alive new ≡ false �
 off_trails old new off = λ server bound positive it.
     subst (Trails server bound) (sym (off_nothing new.post off)) (nothing_trails server bound positive)
 
--- the same stamps
-pub stays_trails : {D : Type 0} (old new : Laptop D) → stamps_in new ≡ stamps_in old → KeepsTrails old new
-stays_trails old new same = same_stamps (stamps_in old) (stamps_in new) same
-
 -- ---- a call of this laptop
 
 module _ {D T : Type 0} {medium : Medium D} {laptop : Laptop D} {was now : Client D} {answer : Result T ClientFault} {new : Laptop D}
@@ -191,8 +175,7 @@ module _ {D T : Type 0} {medium : Medium D} {laptop : Laptop D} {was now : Clien
         → StepFrom after_it (Writes next) m new x y true
     goes_at {after_it} t same note stand =
         let ok : answer ≡ Ok t = answered_so t same in
-        subst (λ (l : Laptop D). StepFrom after_it (Writes next) m l x y true) (sym call.goes.rest)
-        (at_node medium laptop new.post (λ name. Appends name next) (λ m. m.name) here.name
+        rw call.goes.rest (at_node medium laptop new.post (λ name. Appends name next) (λ m. m.name) here.name
         (answered (rw ok (
           (λ n seat. record {
             place_is = note.place ∙ seat.place_is;
@@ -210,8 +193,7 @@ module _ {D T : Type 0} {medium : Medium D} {laptop : Laptop D} {was now : Clien
     pub halts_at : result ≡ Err Over → cuts change → StepFrom (ClientStands medium scripts) (Writes next) m new x y false
     halts_at same cut =
         let stopped : answer ≡ Err Stopped = call.goes.stopped same in
-        subst (λ (l : Laptop D). StepFrom (ClientStands medium scripts) (Writes next) m l x y false) (sym call.goes.rest)
-        (at_node medium laptop new.post (λ name. Appends name next) (λ m. m.name) here.name
+        rw call.goes.rest (at_node medium laptop new.post (λ name. Appends name next) (λ m. m.name) here.name
         (answered (rw stopped (
           (λ n seat. record {
             each = λ image left. elim (cut.either.each image left) [
@@ -283,7 +265,7 @@ module _ {D T : Type 0} {medium : Medium D} {laptop : Laptop D} {was now : Clien
   alone_by scripts next went over (Err Over) same = record { is = from_known scripts new y None (over same) }
 
   -- by a call that notes this change, which leaves what is known of what runs, or stops in that
-  alone : (scripts : List Declared) (next : ClientState → ClientState) (change : Change) → OnOk answer (Notes change was now)
+  pub alone : (scripts : List Declared) (next : ClientState → ClientState) (change : Change) → OnOk answer (Notes change was now)
       → OnOk answer (live_of now ≡ live_of was) → (IsErrOf answer Stopped → cuts change)
       → ((m : machine.Client) → Known medium scripts s (live_of was) laptop m → CanFollow s change
       → KeptLive scripts (after s change) (live_of was) m.first (next m.node.durable))
@@ -295,17 +277,6 @@ module _ {D T : Type 0} {medium : Medium D} {laptop : Laptop D} {was now : Clien
       notes_at scripts (live_of was) (live_of was) next (λ b. b) change kept t same (IfOk-at_ok _ ok notes) (IfOk-at_ok _ ok lives))
       (λ same. notes_halt scripts (live_of was) (live_of was) next (λ b. b) change kept same (stops (call.goes.stopped same)))
       result refl
-
-  -- the first that waits leaves
-  pub leaves : OnOk answer (Notes Left was now) → OnOk answer (live_of now ≡ live_of was) → (IsErrOf answer Stopped → cuts Left)
-      → Changes medium leave laptop new x y (done result)
-  leaves notes lives stops scripts = alone scripts leave Left notes lives stops (λ m here. left_live here.kept)
-
-  -- a repair
-  pub repairs : (name : List ℕ) → OnOk answer (Notes (Repaired name) was now) → OnOk answer (live_of now ≡ live_of was)
-      → (IsErrOf answer Stopped → cuts (Repaired name)) → Repairs medium name laptop new x y (done result)
-  repairs name notes lives stops scripts script named same =
-      alone scripts (repair script) (Repaired name) notes lives stops (λ m here follows. repaired_live here.kept name script same named)
 
   -- of a reply by which nothing but the held tree changes, what runs goes on
   pub holds_beside : (purpose : Purpose) (reply : List ℕ) → OnOk answer (Brings purpose reply was now)
@@ -332,8 +303,7 @@ module _ {D T : Type 0} {medium : Medium D} {laptop : Laptop D} {was now : Clien
   pub resolves : (reply : List ℕ) (code : Code) → IsScript code → ReadsObjects reply → OnOk answer (Resolves reply code was now)
       → OnOk answer (live_of now ≡ live_of was)
       → (IsErrOf answer Stopped → CutsOffByRun reply code s (records_of was) (medium.may_leave (disk_of now)))
-      → (t : Nodes) → SpellsTree nothing_held reply t → (scripts : List Declared) (plan : Plan) → Plans medium scripts laptop plan
-      → plan.script.code ≡ code → calls.Resolves medium scripts plan t laptop new x y (done result)
+      → calls.Resolves medium reply code laptop new x y (done result)
   resolves reply code script only ran lives stops t spells scripts plan plans same =
       let stage : clients.Stage = clients.Resolved (resolution_of plan t) in
       let kept : (done : Resolution) → IsHeadsRun s.held s.items code t done → (m : machine.Client)

@@ -1,15 +1,14 @@
 -- A restart cuts off what ran, one after the other.
-use Rattle.{iot_changes.specs.declared.changes.Change.TheVariants.Cut, iot_client.proofs.TrailsLaws.cut_trails}
-use Rattle.iot_client.specs.Calls.{Cuts, CutsIfAny, CutsOffCut}
-use Rattle.iot_laptop.proofs.CallsLaws.{Called, answered_so, goes_at, goes_trails, halts_at}
-use Rattle.iot_laptop.proofs.Common.{AreNamed, Before, CanFollow, Client, ClientFault, ClientStands, ClientState, CutsAll, Declared, Err}
-use Rattle.iot_laptop.proofs.Common.{Halt, IfOk, IfOk-at_ok, IfOk-weaker, IsErrOf, KeepsTrails, Laptop, List, Medium, NoMemory, None, Ok}
-use Rattle.iot_laptop.proofs.Common.{OnOk, Option, Over, Part, Result, Returned, RunKept, Some, State, StateKept, StepFrom}
-use Rattle.iot_laptop.proofs.Common.{Stopped, Then, Transaction, UnlessNoMemory, Writes, after, ap, arith, at_each, at_one, bind}
-use Rattle.iot_laptop.proofs.Common.{cut_line, disk_of, goes_on, joined, quiet, records_of, refl, rules, same_Some}
-use Rattle.iot_laptop.proofs.Common.{state_in, state_of, subst, sym, transaction_name, true, ℕ, [], ◌++◌, ◌∙◌, ◌∷◌, ◌≡◌}
-use Rattle.iot_laptop.proofs.NodesLaws.{awake, awake_at, kept_up, none_up}
-use Rattle.iot_laptop.specs.Calls.{Back, CutsFirst, RunFewer}
+use Rattle.{iot_changes.specs.declared.changes.Change.TheVariants.Cut, iot_client.proofs.TrailsLaws.cut_trails, iot_client.specs.Calls.Cuts}
+use Rattle.{iot_client.specs.Calls.CutsIfAny, iot_client.specs.Calls.CutsOffCut, iot_laptop.proofs.CallsLaws.Called}
+use Rattle.iot_laptop.proofs.{CallsLaws.answered_so, CallsLaws.goes_at, CallsLaws.goes_trails, CallsLaws.halts_at, Common.AreNamed}
+use Rattle.iot_laptop.proofs.Common.{Before, CanFollow, Client, ClientFault, ClientStands, ClientState, CutsAll, Declared, Err, Halt, IfOk}
+use Rattle.iot_laptop.proofs.Common.{IfOk-at_ok, IfOk-weaker, IsErrOf, KeepsTrails, Laptop, List, Medium, NoMemory, None, Ok, OnOk, Option}
+use Rattle.iot_laptop.proofs.Common.{Over, Part, Result, Returned, RunKept, Some, State, StateKept, StepFrom, Stopped, Then, Transaction}
+use Rattle.iot_laptop.proofs.Common.{UnlessNoMemory, Writes, after, ap, arith, at_each, at_one, bind, disk_of, goes_on, joined, quiet}
+use Rattle.iot_laptop.proofs.Common.{records_of, refl, rules, same_Some, state_in, state_of, subst, sym, transaction_name, true, ℕ, []}
+use Rattle.iot_laptop.proofs.{Common.◌++◌, Common.◌∙◌, Common.◌∷◌, Common.◌≡◌, NodesLaws.awake, NodesLaws.awake_at, NodesLaws.kept_up}
+use Rattle.iot_laptop.{proofs.NodesLaws.none_up, specs.Below.cut_line, specs.Calls.Back, specs.Calls.CutsFirst, specs.Calls.RunFewer}
 use Rattle.iot_machine.{proofs.StepsLaws.nothing, proofs.StepsLaws.says, specs.Calls.Says, specs.Clients.cut, specs.Events.cuts_off}
 use Rattle.iot_standing.proofs.KeptLaws.{cut_kept, cut_named, idle_is, longest}
 use Rattle.iot_kept.specs.Changes as records
@@ -119,8 +118,7 @@ module _ {D : Type 0} {medium : Medium D} {laptop : Laptop D} {was now : Client 
       let it_is = writes told ok scripts m h.here in
       let back : Back medium scripts later new it_is.next = record {
         here = it_is.stands.0;
-        runs = ap (λ (k : ClientState). k.running) it_is.stands.1
-            ∙ ap (λ (running : List clients.Running). (clients.cut_by first.it.acts running m.node.durable).running) h.runs;
+        runs = rw (it_is.stands.1, h.runs) refl;
       } in
       joined it_is (at_one (bind {a = tt}
       (says (λ k h.
@@ -148,13 +146,12 @@ module _ {D : Type 0} {medium : Medium D} {laptop : Laptop D} {was now : Client 
   -- and one less runs
   pub fewer_by : (r : Result (Option (ℕ × ℕ)) Halt) → result ≡ r
       → IfOk r (λ told. RunFewer told (state_in laptop).running (state_in new).running)
-  fewer_by (Ok None) ok = tt
   fewer_by (Ok (Some told)) ok =
       let first = first_cut told ok in
       let left : (state_of now).running ≡ first.rest = ap (λ (s : State). s.running) first.it.notes.state
       ∙ ap (λ (running : List Transaction). (records.cut first.it.acts running s).running) first.ran in
       rw (IfOk-at_ok _ ok call.goes.same, call.up, left, first.ran) (omega arith)
-  fewer_by (Err halt) over = tt
+  fewer_by other is = tt
 
   -- a server's stamps are kept
   pub cut_keeps : UnlessNoMemory result (KeepsTrails laptop new)

@@ -1,12 +1,11 @@
 -- What a laptop finds among the transactions that run; and that a call that nothing refuses fails as a disk or the memory does.
-use Rattle.std.proofs.Common.{cond, option_map, ◌<◌, ◌||◌}
-use Rattle.std.{proofs.lemmas.Bool.lt-ltb, specs.Prelude.leb}
-use Rattle.iot_client.specs.Calls.{Refuses, busy, idle, is_over_if_any, unended}
-use Rattle.iot_kept.specs.{Memory.classes_of, Memory.transaction, Memory.transactions, States.has_number, declared.running.Running.Running}
-use Rattle.iot_laptop.proofs.Common.{Bool, Client, ClientFault, Err, IfErr, IsFirstOf, Laptop, List, Live}
-use Rattle.iot_laptop.proofs.Common.{MayFail, Medium, None, Ok, Option, Result, Some, Stands, Transaction, ap, false, find, length, live_in}
-use Rattle.iot_laptop.proofs.Common.{live_numbered, map, may_end_if_any, numbered, refl, state_in, sym, true, ℕ, [], ◌==◌, ◌∷◌, ◌≡◌}
-use Rattle.iot_laptop.specs.Below.{IsSome, most_running}
+use Rattle.std.{proofs.Common.drop, proofs.Common.option_map, proofs.Common.◌==◌, proofs.Common.◌||◌, specs.Prelude.leb}
+use Rattle.iot_client.specs.Calls.{Refuses, idle, is_over_if_any}
+use Rattle.iot_kept.specs.{Memory.classes_of, Memory.transaction, Memory.transactions, declared.running.Running.Running}
+use Rattle.iot_laptop.proofs.Common.{Bool, Client, ClientFault, Err, IfErr, Item, Laptop}
+use Rattle.iot_laptop.proofs.Common.{List, Live, MayFail, Medium, None, Ok, Option, Result, Some, Stands, Transaction, ap, arith, false}
+use Rattle.iot_laptop.proofs.Common.{find, head_of, length, live_in, live_numbered, map, numbered, refl, state_in, sym, ℕ, [], ◌∷◌, ◌≡◌}
+use Rattle.iot_laptop.specs.{Below.may_end_if_any, Laptops.IsFirstOf}
 use Rattle.{iot_standing.proofs.StatesLaws.found_stands, iot_tree.specs.declared.limits.TheConstants.ACT_LIMIT}
 
 abbrev pub has_tid : ℕ → Running → Bool
@@ -15,22 +14,19 @@ has_tid number it = it.tid == number
 pub found_transaction : (number : ℕ) (items : List Running)
     → option_map transaction (find (has_tid number) items) ≡ numbered number (transactions items)
 found_transaction number [] = refl
-found_transaction number (it ∷ items) =
-    elim (has_tid number it) as (λ b. option_map transaction (cond b (Some it) (find (has_tid number) items))
-    ≡ cond b (Some (transaction it)) (numbered number (transactions items)))
-    [ true ↦ refl | false ↦ found_transaction number items ]
+found_transaction number (it ∷ items) = grind (arith, found_transaction number items)
 
 pub found_class : (number : ℕ) (items : List Running) (lives : List Live) → classes_of items ≡ map (λ (live : Live). live.first) lives
     → option_map (λ (it : Running). it.first) (find (has_tid number) items)
     ≡ option_map (λ (live : Live). live.first) (live_numbered number (transactions items) lives)
 found_class number [] lives same = refl
 found_class number (it ∷ items) [] same = absurd cc
-found_class number (it ∷ items) (live ∷ lives) same =
-    let here : it.first ≡ live.first = cc in
-    let later : classes_of items ≡ map (λ (live : Live). live.first) lives = cc in
-    elim (has_tid number it) as (λ b. option_map (λ (it : Running). it.first) (cond b (Some it) (find (has_tid number) items))
-    ≡ option_map (λ (live : Live). live.first) (cond b (Some live) (live_numbered number (transactions items) lives)))
-    [ true ↦ ap Some here | false ↦ found_class number items lives later ]
+found_class number (it ∷ items) (live ∷ lives) same = grind (arith, found_class number items lives)
+
+-- the first that waits is before the others
+pub first_of : (items : List Item) (item : Item) → head_of items ≡ Some item → items ≡ item ∷ drop 1 items
+first_of [] item is = absurd cc
+first_of (first ∷ items) item is = cc
 
 -- ---- whether one may end
 
@@ -55,26 +51,8 @@ unrefused (Some fault) old new answer none refuses = absurd cc
 unrefused None old new (Ok value) none refuses = tt
 unrefused None old new (Err fault) none refuses = refuses
 
--- fewer run than may
-pub not_busy : (running : List Transaction) → length running < most_running → busy running ≡ None
-not_busy running room = rw (lt-ltb (length running) most_running room) refl
-
--- the one that is meant runs
-pub not_idle : (it : Option Transaction) → IsSome it → idle it ≡ None
-not_idle None runs = absurd cc
-not_idle (Some it) runs = refl
-
+-- one of first class runs
 pub first_runs : (number : ℕ) (running : List Transaction) (lives : List Live) → IsFirstOf (live_numbered number running lives)
     → idle (numbered number running) ≡ None
-first_runs number [] lives first = absurd first
-first_runs number (it ∷ running) [] first = absurd first
-first_runs number (it ∷ running) (live ∷ lives) first =
-    (elim (has_number number it) as (λ b. IsFirstOf (cond b (Some live) (live_numbered number running lives))
-    → idle (cond b (Some it) (numbered number running)) ≡ None)
-    [ true ↦ λ first. refl | false ↦ first_runs number running lives ]) first
-
--- and may end
-pub not_unended : (it : Option Transaction) (live : Option Live) → may_end_if_any it live ≡ true
-    → unended it (may_end_if_any it live) ≡ None
-not_unended None live may = absurd cc
-not_unended (Some it) live may = rw may refl
+first_runs number (it ∷ running) (live ∷ lives) first = grind (arith, first_runs number running lives)
+first_runs number running lives first = absurd first

@@ -1,8 +1,8 @@
 -- What is known of a client by its node, also after a call that changes nothing but classes.
-use Rattle.iot_laptop.proofs.Common.{AreNamed, At, Between, Call, ChangesClasses, Client, ClientStands, ClientState, Declared}
-use Rattle.iot_laptop.proofs.Common.{Down, IsLent, IsTied, Laptop, LaptopStands, List, Medium, Node, Post, PostStands}
-use Rattle.iot_laptop.proofs.Common.{Reclassed, Seated, Some, Stands, StandsAnyhow, State, StateKept, StateStands, StepFrom, StepsFrom}
-use Rattle.iot_laptop.proofs.Common.{Up, UpStands, all_second, ap, begun_of, counts_on, disk_by, false, is_alive}
+use Rattle.iot_laptop.proofs.Common.{AreNamed, At, Between, Call, ChangesClasses}
+use Rattle.iot_laptop.proofs.Common.{Client, ClientStands, ClientState, Declared, Down, IsLent, IsTied, Laptop, LaptopStands, List, Medium}
+use Rattle.iot_laptop.proofs.Common.{Node, Post, PostStands, Reclassed, Seated, Some, Stands, StandsAnyhow, State, StateKept, StateStands}
+use Rattle.iot_laptop.proofs.Common.{StepFrom, StepsFrom, Up, UpStands, all_second, ap, begun_of, counts_on, disk_by, false, is_alive}
 use Rattle.iot_laptop.proofs.Common.{live_by, live_in, live_of, live_with, lives_then, map, no_text, on_is, possibly_sure, refl, rules}
 use Rattle.iot_laptop.proofs.Common.{seating, second_class, stamps_by, state_by, state_in, state_of, subst, sym, true, ℕ, [], ◌∙◌, ◌≡◌}
 use Rattle.iot_laptop.proofs.SeatsLaws.{known_again, none_known}

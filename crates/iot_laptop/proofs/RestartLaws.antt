@@ -1,17 +1,16 @@
 -- What befalls a laptop: its link, and a start, a crash, a restart and an armed disk of its node.
 use Rattle.std.proofs.{Common.codes, Common.◌≢◌, lemmas.Result.on_ok_weaker}
-use Rattle.{iot_disk.specs.Disk.Storing, iot_disk.specs.declared.disk.Pick.Pick}
-use Rattle.{iot_judging.proofs.SpelledTreesLaws.far_root_spelled, iot_kept.specs.Rules.header, iot_kept.specs.States.opening}
-use Rattle.iot_laptop.proofs.Common.{AreNamed, Asks, At, Before, Between}
-use Rattle.iot_laptop.proofs.Common.{Besides, Bool, ClientStands, ClientState, CutsAll, Declared, Down, IsClientImage, IsTree}
-use Rattle.iot_laptop.proofs.Common.{KeepsDisk, Laptop, LaptopStands, List, Medium, Node, None, OnOk, Option, Part, Post, PostStands}
-use Rattle.iot_laptop.proofs.Common.{Reclassed, Result, Returned, Seated, Stands, StandsAnyhow, StepFrom, Then, all_second, ap, append-nil}
-use Rattle.iot_laptop.proofs.Common.{arith, asks, at_each, at_one, begun_of, bind, connected, counts_on, disk_by, does}
+use Rattle.{iot_disk.specs.Disk.Storing, iot_disk.specs.declared.disk.Pick.Pick, iot_judging.proofs.SpelledTreesLaws.far_root_spelled}
+use Rattle.{iot_kept.specs.Rules.header, iot_kept.specs.States.opening, iot_laptop.proofs.Common.AreNamed, iot_laptop.proofs.Common.Asks}
+use Rattle.iot_laptop.proofs.Common.{At, Before, Besides, Between, Bool, ClientStands, ClientState, CutsAll, Declared, Down, IsClientImage}
+use Rattle.iot_laptop.proofs.Common.{IsTree, KeepsDisk, Laptop, LaptopStands, List, Medium, Node, None, OnOk, Option, Part, Post}
+use Rattle.iot_laptop.proofs.Common.{PostStands, Reclassed, Result, Returned, Seated, Stands, StandsAnyhow, StepFrom, Then, all_second}
+use Rattle.iot_laptop.proofs.Common.{ap, append-nil, arith, asks, at_each, at_one, begun_of, bind, connected, counts_on, disk_by, does}
 use Rattle.iot_laptop.proofs.Common.{false, goes_on, inl, inr, is_alive, is_on, joined, live_in, live_with, lives_then, no_text, on_is}
 use Rattle.iot_laptop.proofs.Common.{quiet, refl, rules, same_Some, seating, state_by, state_in, subst, sym, true, ℕ, [], ◌++◌, ◌∙◌, ◌≡◌}
 use Rattle.iot_laptop.proofs.NodesLaws.{Posted, at_node, awake, awake_stands, kept_up, known_up, node_is, none_up, not_both, stands_at}
 use Rattle.iot_laptop.{proofs.SeatsLaws.begun_all, proofs.SeatsLaws.besides_by, proofs.SeatsLaws.none_runs, specs.Alone.OpensClient}
-use Rattle.iot_laptop.specs.{Below.IsEmpty, Calls.Came, Laptops.IsCutLink, Laptops.IsUnopened, Laptops.after_passage}
+use Rattle.iot_laptop.specs.{Below.IsEmpty, Calls.Befalls, Calls.Came, Laptops.IsCutLink, Laptops.IsUnopened, Laptops.after_passage}
 use Rattle.{iot_laptop.specs.Laptops.unopened_laptop, iot_link.specs.Links.LinkState, iot_link.specs.Links.after_exchange}
 use Rattle.iot_link.specs.declared.passages.Passage.{Passage, TheVariants.Away, TheVariants.Both}
 use Rattle.iot_machine.proofs.PossiblyLaws.{SameStates, comes_within, crashes_within, opens_states, possibly_same}
@@ -28,33 +27,22 @@ use Rattle.iot_link.specs.Links as links
 module _ {D : Type 0} (medium : Medium D) (laptop : Laptop D) where
   -- ---- another link
 
-  over_link : (link : LinkState) (scripts : List Declared) (m : machine.Client) → LaptopStands medium scripts laptop m
-      → LaptopStands medium scripts (record laptop { link = link }) (record m { link = link })
-  over_link link scripts m here = search rules
-
-  linked : (link : LinkState) (scripts : List Declared) (m : machine.Client) → ClientStands medium scripts laptop m
-      → ClientStands medium scripts (record laptop { link = link }) (record m { link = link })
-  linked link scripts m here = search rules
-
   -- over another link it stands for some client too
   pub stands_over : (link : LinkState) → Stands medium laptop → Stands medium (record laptop { link = link })
-  stands_over link stands = record { scripts = _; machine = _; stands = over_link link stands.scripts stands.machine stands.stands }
+  stands_over link stands =
+      record { scripts = stands.scripts; machine = record stands.machine { link = link }; stands = search (rules, stands.stands) }
 
   -- its link is made another one, and that is said
   pub relinks : {E : Type 0} (r : Result (Unit {0}) E) (change : LinkState → LinkState) (line : List ℕ → List ℕ) (link : LinkState)
       (x y : List ℕ) → link ≡ change laptop.link → OnOk r (y ≡ x ++ line laptop.name)
-      → OnOk r ((scripts : List Declared)
-      → Refines (ClientStands medium scripts) (Does (λ m. line m.name) (λ m. record m { link = change m.link }))
-      laptop (record laptop { link = link }) x y tt)
-  relinks r change line link x y is = on_ok_weaker r (λ wrote scripts. does (λ m here. (
-    wrote ∙ ap (λ (n : List ℕ). x ++ line n) here.name,
-    subst (λ (l : LinkState). ClientStands medium scripts (record laptop { link = link }) (record m { link = l }))
-        (is ∙ ap change here.link) (linked link scripts m here),
-  )))
+      → OnOk r (Befalls medium (Does (λ m. line m.name) (λ m. record m { link = change m.link })) laptop
+      (record laptop { link = link }) x y tt)
+  relinks r change line link x y is = on_ok_weaker r (λ wrote scripts. does (λ m here.
+      let same : link ≡ change m.link = is ∙ ap change here.link in
+      (wrote ∙ ap (λ (n : List ℕ). x ++ line n) here.name, search rules)))
 
   pub disconnects : {E : Type 0} (r : Result (Unit {0}) E) (mid : Laptop D) (x y : List ℕ) → IsCutLink medium laptop mid
-      → OnOk r (y ≡ x ++ disconnect_line mid.name)
-      → OnOk r ((scripts : List Declared) → Refines (ClientStands medium scripts) Disconnects laptop mid x y tt)
+      → OnOk r (y ≡ x ++ disconnect_line mid.name) → OnOk r (Befalls medium Disconnects laptop mid x y tt)
   disconnects r mid x y cut = on_ok_weaker r (λ wrote scripts. does (λ m here.
       let there = cut.stands scripts m here in
       (wrote ∙ ap (λ (n : List ℕ). x ++ disconnect_line n) there.name, there)))
@@ -65,15 +53,10 @@ module _ {D : Type 0} (medium : Medium D) (laptop : Laptop D) where
   pub over_second : (link : LinkState) (new : Laptop D) {change : machine.Client → machine.Client}
       → ((m : machine.Client) → laptop.link ≡ m.link → record m { link = link; first = [] } ≡ change m)
       → Reclassed medium all_second (record laptop { link = link }) new → Reclassed medium change laptop new
-  over_second link new is second = record {
-    place = second.place;
-    state = second.state;
-    stamps = second.stamps;
-    disk = second.disk;
-    stands = λ scripts m here.
-        subst (LaptopStands medium scripts new) (is m here.link)
-        (second.stands scripts (record m { link = link }) (over_link link scripts m here));
-  }
+  over_second link new {change} is second =
+      let stands : (scripts : List Declared) (m : machine.Client) → LaptopStands medium scripts laptop m
+      → LaptopStands medium scripts new (change m) =
+      λ scripts m here. rw (sym (is m here.link)) (second.stands scripts (record m { link = link }) (search rules)) in search rules
 
   -- so it is after any that did not get through
   pub is_over : (p : Passage) (link : LinkState) (new : Laptop D) → link ≡ after_exchange p laptop.link → p ≢ Both
@@ -88,12 +71,9 @@ module _ {D : Type 0} (medium : Medium D) (laptop : Laptop D) where
   cuts_live link new is up second =
       let over : Reclassed medium machine.cut_off laptop new =
       over_second link new (λ m same. λ i. record m { link = (is ∙ ap (connected false) same) i; first = [] }) second in
-      record {
-        place = second.place;
-        stamps = second.stamps;
-        disk = second.disk;
-        stands = λ scripts m here. awake (over.stands scripts m (awake_stands medium scripts laptop m up here));
-      }
+      let stands : (scripts : List Declared) (m : machine.Client) → ClientStands medium scripts laptop m
+      → ClientStands medium scripts new (machine.cut_off m) =
+      λ scripts m here. awake (over.stands scripts m (awake_stands medium scripts laptop m up here)) in search rules
 
 -- ---- its node
 
@@ -112,7 +92,7 @@ module _ {D : Type 0} (medium : Medium D) (laptop : Laptop D) (post : Post (Seat
       (at_each (λ m here. at_node medium laptop post call (λ _. laptop.name) refl (it.step m.node here.node) (each m here)))
 
   pub crashes : (x y : List ℕ) → Refines (Posted medium laptop) (Crashes laptop.name) laptop.post post x y tt
-      → is_on post ≡ false → (scripts : List Declared) → Refines (ClientStands medium scripts) CrashesClient laptop next x y tt
+      → is_on post ≡ false → Befalls medium CrashesClient laptop next x y tt
   crashes x y it off scripts = by_name scripts Crashes x y it (λ m here n text step stands.
       stands_at medium scripts laptop m here.name here.link post n stands
       (λ up. absurd (not_both (sym up ∙ on_is (seating medium laptop.place) medium no_text post n stands ∙ off)))
@@ -121,7 +101,7 @@ module _ {D : Type 0} (medium : Medium D) (laptop : Laptop D) (post : Post (Seat
   -- its disk is armed
   pub arms : (calls : ℕ) (pick : Pick) → besides_by post ≡ besides_by laptop.post → (x y : List ℕ)
       → Refines (Posted medium laptop) (ArmsDisk laptop.name calls pick) laptop.post post x y tt
-      → (scripts : List Declared) → Refines (ClientStands medium scripts) (ArmsClient calls pick) laptop next x y tt
+      → Befalls medium (ArmsClient calls pick) laptop next x y tt
   arms calls pick live x y it scripts = by_name scripts (λ name. ArmsDisk name calls pick) x y it (λ m here n text step stands.
       let same : SameStates m.node n = rw step.1 (record { durable = refl; doubt = refl }) in
       stands_at medium scripts laptop m here.name here.link post n stands
@@ -191,8 +171,7 @@ module _ {D : Type 0} (medium : Medium D) (laptop : Laptop D) (new : IsUnopened 
         let kept = kept_up medium laptop.place post s.1 s.4 (on_is (seating medium laptop.place) medium no_text post s.1 s.4 ∙ up) in
         none_runs (state_by post).running (rw (opens_states laptop.name opens_standing.node s.1 s.0 on s.3).durable at kept.running)
 
-    pub opens : (scripts : List Declared)
-        → Refines (ClientStands medium scripts) OpensClient laptop (record laptop { post = post }) x y on
+    pub opens : Befalls medium OpensClient laptop (record laptop { post = post }) x y on
     opens scripts = at_each (λ m here.
         at_node medium laptop post OpensNode (λ m. m.name) here.name (it.step m.node here.node) (λ n text step stands.
         stands_at medium scripts laptop m here.name here.link post n stands
@@ -203,19 +182,17 @@ module _ {D : Type 0} (medium : Medium D) (laptop : Laptop D) (new : IsUnopened 
 
 -- ---- a restart
 
--- its node came back over this post, or stopped again
-pub record CameBack {D : Type 0} (medium : Medium D) (old : Laptop D) (post : Post (Seated D) D) (x y : List ℕ) (on : Bool) : Type
-    0 where
-  pub off : is_alive old ≡ false
-  pub steps : Refines (Posted medium old) (ComesBack old.name no_text) old.post post x y on
-  pub is : is_on post ≡ on
-  pub came : (node : Node ClientState) → Posted medium old old.post node
-      → CameIf (seating medium old.place) medium on old.post (words_of Restart old.name) x y node.durable node.doubt
-
 module _ {D : Type 0} (medium : Medium D) (old : Laptop D) where
+  -- its node came back over this post, or stopped again
+  pub record CameBack (post : Post (Seated D) D) (x y : List ℕ) (on : Bool) : Type 0 where
+    pub off : is_alive old ≡ false
+    pub steps : Refines (Posted medium old) (ComesBack old.name no_text) old.post post x y on
+    pub is : is_on post ≡ on
+    pub came : (node : Node ClientState) → Posted medium old old.post node
+        → CameIf (seating medium old.place) medium on old.post (words_of Restart old.name) x y node.durable node.doubt
+
   -- one that is alive is left as it is
-  pub says_up : (x z : List ℕ) → is_alive old ≡ true → z ≡ x ++ line (codes "up") → (scripts : List Declared)
-      → Refines (ClientStands medium scripts) RestartsClient old old x z tt
+  pub says_up : (x z : List ℕ) → is_alive old ≡ true → z ≡ x ++ line (codes "up") → Befalls medium RestartsClient old old x z tt
   says_up x z up wrote scripts =
       (bind {a = true} (asks (λ m here. sym (awake_stands medium scripts old m up here).alive))
       (says_this wrote))
@@ -232,7 +209,7 @@ module _ {D : Type 0} (medium : Medium D) (old : Laptop D) where
     Turned scripts true laptop m = Before medium laptop scripts m
     Turned scripts false laptop m = ClientStands medium scripts laptop m
 
-    module _ {on : Bool} (back : CameBack medium old post x y on) (scripts : List Declared) where
+    module _ {on : Bool} (back : CameBack post x y on) (scripts : List Declared) where
       turns : (m : machine.Client) → ClientStands medium scripts old m
           → StepFrom (Turned scripts on) (At machine.node (ComesBack old.name no_text)) m mid x y on
       turns m down =
@@ -259,7 +236,7 @@ module _ {D : Type 0} (medium : Medium D) (old : Laptop D) where
 
     -- ---- it has stopped again
 
-    module _ (back : CameBack medium old post x y false) (scripts : List Declared) where
+    module _ (back : CameBack post x y false) (scripts : List Declared) where
       pub stops_again : Refines (ClientStands medium scripts) RestartsClient old mid x y tt
       stops_again = restarts back scripts mid y (λ k there. quiet k (refl, refl) there)
 
@@ -271,7 +248,7 @@ module _ {D : Type 0} (medium : Medium D) (old : Laptop D) where
 
     -- ---- it is back
 
-    module _ (back : CameBack medium old post x y true) where
+    module _ (back : CameBack post x y true) where
       pub is_back : StandsAnyhow medium old → Returned medium mid
       is_back stands = record { scripts = _; machine = _; stands = (turns back stands.scripts stands.machine stands.stands).stands }
 

@@ -5,25 +5,24 @@ use Rattle.iot_client.specs.Calls.{CanAct, CutsOffEnd, CutsOffNext, Differs, End
 use Rattle.iot_client.specs.Calls.{StepIs, joining, lives_after, next_acts, other_lives, starting, with_live, yielded, yielded_to}
 use Rattle.iot_client.specs.declared.{ended.Ended.Ended as EndedIs, steps.Step.Step}
 use Rattle.iot_kept.{proofs.SyncedLaws.synced_numbered, specs.States.view}
-use Rattle.iot_laptop.proofs.CallsLaws.{Called, Known, answered_so, from_known, goes_trails, known_was, notes_at, notes_halt}
-use Rattle.iot_laptop.proofs.Common.{Asks, Bool, CanFollow, ChangesClasses, Client, ClientFault, ClientStands}
-use Rattle.iot_laptop.proofs.Common.{Code, CutsOff, Declared, EndsAlone, Err, Halt, IfOk, IfOk-at_ok, IfOk-weaker, IsErrOf}
-use Rattle.iot_laptop.proofs.Common.{IsScript, Item, KeepsTrails, KeptLive, Laptop, LaptopStands, List, Live, Medium, NoMemory, None}
-use Rattle.iot_laptop.proofs.Common.{Notes, NotesAlone, Ok, OnOk, Option, Over, Reclassed, Result, Some, State, StateKept, StepsTo, Stopped}
-use Rattle.iot_laptop.proofs.Common.{Transaction, UnlessNoMemory, acts_output, after, answers, ap, append-nil, arith, asks, at_each, at_one}
-use Rattle.iot_laptop.proofs.Common.{bind, disk_of, does, done, false, joined, live_in, live_numbered, live_of, numbered}
-use Rattle.iot_laptop.proofs.Common.{quiet, records_of, refl, rules, same_Some, second_class, stamps_by, stamps_in, stamps_of, stands_so}
-use Rattle.iot_laptop.proofs.Common.{state_by, state_in, state_of, subst, sym, transaction_name, true, ℕ, [], ◌++◌, ◌∙◌, ◌∷◌, ◌≡◌}
-use Rattle.iot_laptop.{proofs.CallsLaws.unless_done, proofs.NodesLaws.reclasses}
+use Rattle.iot_laptop.proofs.CallsLaws.{Called, Known, answered_so, from_known, goes_trails, known_was, notes_at, notes_halt, unless_done}
+use Rattle.iot_laptop.proofs.Common.{Asks, Bool, CanFollow, ChangesClasses, Client, ClientFault, ClientStands, Code, CutsOff, Declared}
+use Rattle.iot_laptop.proofs.Common.{EndsAlone, Err, Halt, IfOk, IfOk-at_ok, IfOk-weaker, IsErrOf, IsScript, Item, KeepsTrails, KeptLive}
+use Rattle.iot_laptop.proofs.Common.{Laptop, LaptopStands, List, Live, Medium, NoMemory, None, Notes, NotesAlone, Ok, OnOk, Option, Over}
+use Rattle.iot_laptop.proofs.Common.{Reclassed, Result, Some, State, StateKept, StepsTo, Stopped, Transaction, UnlessNoMemory, acts_output}
+use Rattle.iot_laptop.proofs.Common.{after, answers, ap, append-nil, arith, asks, at_each, at_one, bind, disk_of, does, done, false, joined}
+use Rattle.iot_laptop.proofs.Common.{live_in, live_numbered, live_of, numbered, quiet, records_of, refl, rules, same_Some, second_class}
+use Rattle.iot_laptop.proofs.Common.{stamps_by, stamps_in, stamps_of, stands_so, state_by, state_in, state_of, subst, sym, transaction_name}
+use Rattle.iot_laptop.proofs.{Common.true, Common.ℕ, Common.[], Common.◌++◌, Common.◌∙◌, Common.◌∷◌, Common.◌≡◌, NodesLaws.reclasses}
 use Rattle.iot_laptop.specs.Alone.{CertifiesAlone, ComparesAlone, StartsAlone, YieldsAlone, change_by, set_class, yielding}
 use Rattle.iot_laptop.specs.Below.{Compared, Same, has_any, option_map}
 use Rattle.iot_laptop.specs.Calls.{Begins, IsGoneIfAny, NextIs, TakesStep, acts_by, certified_if, compared_if}
 use Rattle.iot_machine.{proofs.StepsLaws.gets, specs.Calls.Answers, specs.Calls.unless_over, specs.Clients.act_once, specs.Clients.begin}
-use Rattle.{iot_machine.specs.Machine.classed, iot_node.specs.Steps.EndsBy}
-use Rattle.iot_standing.proofs.KeptLaws.{acted_live, again_live, begun_live, ended_live, parts as reads_part, same_reads}
-use Rattle.iot_standing.proofs.{KeptLaws.yielded_live, KeptLaws.yields, RunsLaws.SoOf, RunsLaws.kept_as, RunsLaws.kept_both}
-use Rattle.iot_standing.proofs.{RunsLaws.number_found, RunsLaws.own_number, RunsLaws.so_of, StatesLaws.acts_is}
-use Rattle.iot_standing.{proofs.StatesLaws.next_is, proofs.StatesLaws.one_is, specs.Kept.RunningKept, specs.States.RunningStands}
+use Rattle.{iot_machine.specs.Machine.classed, iot_node.specs.Steps.EndsBy, iot_standing.proofs.KeptLaws.acted_live}
+use Rattle.iot_standing.proofs.KeptLaws.{again_live, begun_live, ended_live, parts as reads_part, same_reads, yielded_live, yields}
+use Rattle.iot_standing.proofs.RunsLaws.{SoOf, kept_as, kept_both, number_found, own_number, so_of}
+use Rattle.iot_standing.proofs.StatesLaws.{acts_is, next_is, one_is}
+use Rattle.iot_standing.specs.{Kept.RunningKept, States.RunningStands}
 use Rattle.iot_tree.specs.declared.{acts.Act.Act, labels.OnConflict.OnConflict as OnConflictNamed, questions.Question.Question}
 use Rattle.iot_machine.specs.Clients as clients
 use Rattle.iot_machine.specs.Machine as machine
@@ -42,15 +41,14 @@ first_then number m = yields number (has_any m.node.durable.items) m.first
 -- one that is first class then has yielded to none
 second_of : (number : ℕ) (running : List Transaction) (lives : List Live) (live : Live)
     → live_numbered number running (with_live number second_class running lives) ≡ Some live → live.first ≡ false
-second_of number [] lives live found = absurd cc
-second_of number (it ∷ running) [] live found = absurd cc
 second_of number (it ∷ running) (one ∷ lives) live found = grind (arith, second_of number running lives live)
+second_of number running lives live found = absurd cc
 
 pub none_waits : (items : List Item) (number : ℕ) (running : List Transaction) (lives : List Live) (live : Live)
     → live_numbered number running (yielded_to items number running lives) ≡ Some live → live.first ≡ true → items ≡ []
 none_waits [] number running lives live found first = refl
 none_waits (item ∷ items) number running lives live found first =
-    let second : live.first ≡ false = second_of number running lives live found in absurd cc
+    cc (second_of number running lives live found)
 
 -- ---- it begins
 
@@ -168,8 +166,7 @@ module _ {D : Type 0} (was : Client D) (number : ℕ) where
     stays : (step : Step) → result ≡ Ok step → ChangesClasses was now → Reclassed medium (yielding number) laptop new × (y ≡ x)
     stays step ok same =
         let done : answer ≡ Ok step = answered_so call step ok in (
-          subst (Reclassed medium (yielding number) laptop) (sym (IfOk-at_ok _ ok call.goes.same))
-              (reclasses call.up same (IfOk-at_ok _ done call.tied) (first_then number)
+          rw (IfOk-at_ok _ ok call.goes.same) (reclasses call.up same (IfOk-at_ok _ done call.tied) (first_then number)
               (λ scripts m here. IfOk-at_ok _ done lives ∙ (known_then call scripts m here).runs)),
           IfOk-at_ok _ ok call.goes.silent,
         )
@@ -315,8 +312,7 @@ module _ {D : Type 0} (was : Client D) (number : ℕ) where
           class = so.so.1 ∙ stands.class;
           did = (rw (call.up, so.is) at printed) ∙ ap acts_output same.acts;
         }
-    is_gone printed (Ok (ends.Again read question)) ok = tt
-    is_gone printed (Err halt) over = tt
+    is_gone printed other is = tt
 
     -- a server's stamps are kept
     pub end_trails : UnlessNoMemory (compared_if (certified_if laptop.name output result)) (KeepsTrails laptop new)
@@ -327,5 +323,4 @@ module _ {D : Type 0} (was : Client D) (number : ℕ) where
         by : (P : Type 0) (r : Result EndedIs Halt) → UnlessNoMemory r P
             → UnlessNoMemory (compared_if (certified_if laptop.name output r)) P
         by P (Ok (ends.Joined tid class)) so = so
-        by P (Ok (ends.Again read question)) so = so
-        by P (Err halt) so = so
+        by P other so = so

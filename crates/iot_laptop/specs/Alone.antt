@@ -1,8 +1,8 @@
 -- What a client of the machine does alone, and how a call ends its event.
 use Rattle.std.specs.Prelude.{◌+◌, ◌≡◌}
-use Rattle.iot_laptop.specs.Below.{Bool, ClientState}
+use Rattle.iot_laptop.specs.Below.{Bool, Call, ClientState}
 use Rattle.iot_laptop.specs.Below.{Compared, Declared, Differs, List, None, Option, Same, Some, Try, false, has_any, true, view, ℕ, []}
-use Rattle.iot_machine.specs.Calls.{Answers, Asks, At, Call, Does, Gets, Goes, Part, Then}
+use Rattle.iot_machine.specs.Calls.{Answers, Asks, At, Does, Gets, Goes, Part, Then}
 use Rattle.iot_machine.specs.Clients.{ReadsSame, Running, again, begin, end, numbered, reads_here, reads_on}
 use Rattle.iot_machine.specs.{Machine.Client, Machine.classed, Machine.node, Options.OnConflict}
 use Rattle.iot_machine.specs.{Serving.Conflict, Serving.Parts, Stops.OpensNode, Transactions.Writes, Transactions.unless_stopped}
@@ -52,12 +52,11 @@ abbrev pub change_by : (number : ℕ) → Compared → ClientState → ClientSta
 change_by number Same = end number
 change_by number (Differs read question) = again number
 
-abbrev pub notes_found : (number : ℕ) → Compared → Try Client Compared
-notes_found number found = Goes (NotesAlone (change_by number found)) (λ _. Answers (Some found))
-
 abbrev pub certify_alone : Option Running → Try Client Compared
 certify_alone None = Answers None
-certify_alone (Some it) = Then (YieldsAlone it.number) (λ _. Then (ComparesAlone it) (notes_found it.number))
+certify_alone (Some it) =
+    Then (YieldsAlone it.number) (λ _. Then (ComparesAlone it) (λ found.
+    Goes (NotesAlone (change_by it.number found)) (λ _. Answers (Some found))))
 
 -- the one with this number is certified, and what was found is noted
 abbrev pub CertifiesAlone : (number : ℕ) → Try Client Compared

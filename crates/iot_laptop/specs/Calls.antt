@@ -3,28 +3,28 @@ use Rattle.std.specs.Prelude.{Err, Ok, Result, codes, slice_get, ◌++◌, ◌<�
 use Rattle.iot_access.specs.Access.{access_of, lines_of}
 use Rattle.iot_client.specs.Messages.{IsWholeRequest, label_of, resolved_label}
 use Rattle.iot_client.specs.declared.{ended.Ended.Ended, fault.ClientFault.ClientFault, steps.Step.Step}
-use Rattle.{iot_disk.specs.declared.faults.JournalFault.JournalFault, iot_kept.specs.States.Transaction}
-use Rattle.iot_laptop.specs.{Alone.NotesAlone, Alone.StartsAlone, Alone.YieldsAndNotes, Alone.yielding, Below.[]}
-use Rattle.iot_laptop.specs.Below.{AreNamed, Bool, ClientState, Compared, Declared, Differs, IfOk, IsErrOf, IsRefresh}
-use Rattle.iot_laptop.specs.Below.{IsSubmitted, KeepsDisk, Laptop, List, Medium, Nodes, None, OnOk, Option, Plan, PostStands, Read, Same}
-use Rattle.iot_laptop.specs.Below.{Seated, Some, Spells, SpellsVerdict, Stamps, State, Try, Up, acts_output, brought, cut_line, false}
-use Rattle.iot_laptop.specs.Below.{length, name_of, no_text, nothing_held, numbered, option_map, reads_of, records_of, true, ℕ}
-use Rattle.iot_laptop.specs.Laptops.{ClientStands, IsFirst, KeepsTrails, LaptopStands, NodeStands, Reclassed, SamePlace}
-use Rattle.iot_laptop.specs.Laptops.{disk_in, is_alive, stamps_in, state_in}
-use Rattle.iot_laptop.specs.{Messages.SpellsTree, Messages.verdict_of, Seats.seating}
+use Rattle.{iot_disk.specs.declared.faults.JournalFault.JournalFault, iot_kept.specs.States.Transaction, iot_lang.specs.Code.Code}
+use Rattle.iot_laptop.specs.Alone.{NotesAlone, StartsAlone, YieldsAndNotes, yielding}
+use Rattle.iot_laptop.specs.Below.{AreNamed, Bool, Call, ClientState, Compared, Declared, Differs}
+use Rattle.iot_laptop.specs.Below.{IfOk, IsErrOf, IsSubmitted, KeepsDisk, Laptop, List, Medium, Nodes, None, OnOk, Option, Plan, PostStands}
+use Rattle.iot_laptop.specs.Below.{Read, Same, Seated, Some, Spells, SpellsVerdict, Stamps, State, Try, Up, acts_output, brought, cut_line}
+use Rattle.iot_laptop.specs.Below.{false, length, name_of, no_text, nothing_held, numbered, option_map, reads_of, records_of, true, ℕ, []}
+use Rattle.iot_laptop.specs.Laptops.{ClientStands, IsFirst, KeepsTrails, LaptopStands, NodeStands, Reclassed, SamePlace, disk_in, is_alive}
+use Rattle.iot_laptop.specs.{Laptops.stamps_in, Laptops.state_in, Messages.SpellsTree, Messages.verdict_of, Seats.seating}
 use Rattle.iot_laptop.specs.declared.needs.Certified.{Certified, TheVariants.Again, TheVariants.Joined}
 use Rattle.iot_laptop.specs.declared.needs.{Gone.Gone, Need.Need, Submitted.Submitted, Undecided.Undecided, Undecided.TheVariants.NotManual}
 use Rattle.iot_laptop.specs.declared.{needs.Undecided.TheVariants.Nothing, verdict.Told.Told}
 use Rattle.iot_machine.specs.Clients.{Acts, Next, act_once, next_step, reach, repair, resolution_of, so_far}
-use Rattle.iot_machine.specs.{Events.cuts_off, Nodes.Node, Refining.StepsTo, Stops.Appends, Texts.stopped_line, Texts.transaction_name}
+use Rattle.iot_machine.specs.{Events.cuts_off, Nodes.Node, Refining.Refines, Refining.StepsTo, Stops.Appends}
+use Rattle.iot_machine.specs.Texts.{stopped_line, transaction_name}
 use Rattle.iot_node.specs.{Keeping.Appended, Posts.Answered, Posts.CameIf, Posts.StepsFrom, Posts.UpStands, Posts.words_of, Steps.Ends}
-use Rattle.iot_node.specs.declared.{comeback.Comeback.TheVariants.Restart, halt.Halt.Halt}
-use Rattle.iot_node.specs.declared.halt.Halt.TheVariants.{NoMemory, Over}
-use Rattle.iot_queue.specs.declared.items.{Item.Item, Stage.Stage}
-use Rattle.iot_standing.specs.{Scripts.HasNamed, Scripts.IsNamed, Scripts.option_named, States.head_option, States.head_plan}
-use Rattle.{iot_standing.specs.States.next_as, iot_standing.specs.States.told_change, iot_tree.specs.declared.access.Access.Access}
+use Rattle.iot_node.specs.declared.{comeback.Comeback.TheVariants.Restart, halt.Halt.Halt, halt.Halt.TheVariants.NoMemory}
+use Rattle.{iot_node.specs.declared.halt.Halt.TheVariants.Over, iot_queue.specs.declared.items.Item.Item}
+use Rattle.{iot_queue.specs.declared.items.Stage.Stage, iot_standing.specs.Scripts.HasNamed, iot_standing.specs.Scripts.IsNamed}
+use Rattle.iot_standing.specs.{Scripts.option_named, States.head_option, States.head_plan, States.next_as, States.told_change}
+use Rattle.iot_tree.specs.{Profiles.IsProfile, Profiles.IsWalkLimit, declared.access.Access.Access}
 use Rattle.iot_tree.specs.declared.{acts.Act.Act, changes.Changes.Changes as RowChanges, labels.Label.Label, labels.OnConflict.OnConflict}
-use Rattle.iot_tree.specs.Profiles.{IsProfile, IsWalkLimit}
+use Rattle.iot_wire.specs.Meanings.{IsRefresh}
 use Rattle.iot_wire.specs.{Messages.IsMessage, Rules.IsRequest, Spelling.request_spelling, declared.requests.Request.TheVariants.Commit}
 use Rattle.iot_wire.specs.declared.replies.Reply.TheVariants as replies
 use Rattle.iot_tree.specs.declared.want.Want.TheVariants as wanted
@@ -46,14 +46,11 @@ use Rattle.iot_laptop.specs.declared.errand.Errand.TheVariants as errands
 
 -- ---- a record
 
--- a fault of a call that was not refused, as one of an append
-abbrev pub of_client : ClientFault → JournalFault
-of_client faults.Stopped = append.Stopped
-of_client other = append.NoMemory
-
+-- the answer of a call that was not refused, as one of an append
 abbrev pub appended : {T : Type 0} → Result T ClientFault → Result T JournalFault
 appended (Ok t) = Ok t
-appended (Err fault) = Err (of_client fault)
+appended (Err faults.Stopped) = Err append.Stopped
+appended (Err other) = Err append.NoMemory
 
 -- What became of a laptop after a call of its client that was to append a record behind so many others. It goes on as that call left it;
 -- or its disk failed in the call, and it has stopped.
@@ -103,6 +100,10 @@ abbrev pub EndsAlone : {D A : Type 0} → Medium D → List Declared → Try mac
 EndsAlone medium scripts call old new x y result =
     Ends (LaptopStands medium scripts) (ClientStands medium scripts) call old new x y result
 
+-- among any scripts it stands for a client, alive or down, before and after this call
+abbrev pub Befalls : {D A : Type 0} → Medium D → Call machine.Client A → (old new : Laptop D) → (x y : List ℕ) → A → Type 0
+Befalls medium call old new x y a = (scripts : List Declared) → Refines (ClientStands medium scripts) call old new x y a
+
 -- it notes this change, or stops in that
 abbrev pub Changes : {D : Type 0} → Medium D → (ClientState → ClientState) → Outcome D (Unit {0})
 Changes medium change old new x y result =
@@ -127,10 +128,12 @@ Plans medium scripts laptop plan =
     (m : machine.Client) → LaptopStands medium scripts laptop m
     → head_plan m.node.durable.held m.node.durable.items ≡ Some plan
 
--- the first that waits was resolved on this tree as it is planned
-abbrev pub Resolves : {D : Type 0} → Medium D → List Declared → Plan → (t : Nodes) → Outcome D (Unit {0})
-Resolves medium scripts plan t old new x y result =
-    EndsAlone medium scripts (NotesAlone (reach (clients.Resolved (resolution_of plan t)))) old new x y result
+-- on the tree that the reply brings the first that waits is resolved as it is planned, if it is planned by this script
+abbrev pub Resolves : {D : Type 0} → Medium D → (reply : List ℕ) → Code → Outcome D (Unit {0})
+Resolves medium reply code old new x y result =
+    (t : Nodes) → SpellsTree nothing_held reply t → (scripts : List Declared) (plan : Plan) → Plans medium scripts old plan
+    → plan.script.code ≡ code
+    → EndsAlone medium scripts (NotesAlone (reach (clients.Resolved (resolution_of plan t)))) old new x y result
 
 -- ---- what it asks for
 
@@ -253,19 +256,17 @@ NextIs medium number laptop (Ok step) = IsNext medium number laptop (next_as ste
 NextIs medium number laptop (Err NoMemory) = Unit {0}
 NextIs medium number laptop (Err Over) = IsNext medium number laptop Acts
 
--- it has yielded, and notes this change, or stops in that
-abbrev pub YieldsAndChanges : {D : Type 0} → Medium D → (number : ℕ) → (ClientState → ClientState) → Outcome D (Unit {0})
-YieldsAndChanges medium number change old new x y result =
-    (scripts : List Declared) → EndsAlone medium scripts (YieldsAndNotes number change) old new x y result
-
--- the client has done an act, or stopped in that, and else has only yielded; what is fetched is for one of first class, while none waits
+-- the client has yielded and done an act, or stopped in that, or has only yielded; what is fetched is for one of first class, while none
+-- waits
 abbrev pub TakesStep : {D : Type 0} → Medium D → (number : ℕ) → Outcome D Step
-TakesStep medium number old new x y (Ok (steps.Acted acts ended)) = YieldsAndChanges medium number (act_once number) old new x y (Ok tt)
+TakesStep medium number old new x y (Ok (steps.Acted acts ended)) =
+    (scripts : List Declared) → EndsAlone medium scripts (YieldsAndNotes number (act_once number)) old new x y (Ok tt)
 TakesStep medium number old new x y (Ok (steps.Fetch request path)) =
     Reclassed medium (yielding number) old new × (y ≡ x) × IsRefresh (new.place) (stamps_in new) (wanted.Path path) request
     × IsFirst number new × ((state_in new).items ≡ [])
 TakesStep medium number old new x y (Ok over) = Reclassed medium (yielding number) old new × (y ≡ x)
-TakesStep medium number old new x y (Err halt) = YieldsAndChanges medium number (act_once number) old new x y (Err halt)
+TakesStep medium number old new x y (Err halt) =
+    (scripts : List Declared) → EndsAlone medium scripts (YieldsAndNotes number (act_once number)) old new x y (Err halt)
 
 -- ---- the end
 

@@ -24,8 +24,8 @@ use std::rc::Rc;
 
 impl<D: Disk> Laptop<D> {
     ghost use Rattle.iot_laptop.specs.Calls.{Begins, Changes, EndsAlone, GoesOn, IsGoneIfAny, IsNoFetch, IsTold, Keeps, MayTake};
-    ghost use Rattle.iot_laptop.specs.Calls.{NextIs, Plans, Repairs, Resolves, TakesReply, TakesStep, TakesVerdict, errand_of};
-    ghost use Rattle.iot_laptop.specs.{Calls.head_reads, Calls.held_for, Laptops.ClientStands, Laptops.IsFirst, Laptops.KeepsTrails};
+    ghost use Rattle.iot_laptop.specs.Calls.{NextIs, Plans, Repairs, Resolves, TakesReply, TakesStep, TakesVerdict, errand_of, head_reads};
+    ghost use Rattle.iot_laptop.specs.{Calls.held_for, Laptops.ClientStands, Laptops.IsFirst, Laptops.KeepsTrails};
     ghost use Rattle.iot_laptop.specs.Laptops.{LaptopStands, SamePlace, Stands, disk_in, is_alive, live_in, stamps_in, state_in};
 
     /// Holds what the reply brings for it. What runs goes on, but for a transaction for which it was fetched, which begins anew.
@@ -63,7 +63,7 @@ impl<D: Disk> Laptop<D> {
     }
 
     /// Begins its next transaction, which does this if it conflicts, first class or not, and gives its number.
-    #[tactic(auto, using(crate::proofs::FindingLaws::unrefused, crate::proofs::FindingLaws::not_busy))]
+    #[tactic(auto, using(crate::proofs::FindingLaws::unrefused))]
     pub fn begin(
         &mut self,
         alloc: Global,
@@ -86,7 +86,7 @@ impl<D: Disk> Laptop<D> {
     }
 
     /// Does the next act of the transaction with this number, or gives why none is done. It is second class if transactions wait.
-    #[tactic(auto, using(crate::proofs::FindingLaws::unrefused, crate::proofs::FindingLaws::not_idle))]
+    #[tactic(auto, using(crate::proofs::FindingLaws::unrefused))]
     pub fn step(&mut self, alloc: Global, number: u64, out: &mut Text) -> Result<Step, Halt>
         requires stands { Stands D.medium self.old }
         requires place { self.old.place ≤ 7 }
@@ -101,7 +101,7 @@ impl<D: Disk> Laptop<D> {
     }
 
     /// Ends the transaction with this number, whose script has ended or may do no more acts: it waits, or starts again on the view.
-    #[tactic(auto, using(crate::proofs::FindingLaws::unrefused, crate::proofs::FindingLaws::not_unended))]
+    #[tactic(auto, using(crate::proofs::FindingLaws::unrefused))]
     pub fn end(&mut self, alloc: Global, number: u64, out: &mut Text) -> Result<Certified, Halt>
         requires stands { Stands D.medium self.old }
         requires over { may_end_if_any (numbered number (state_in self.old).running)
@@ -166,9 +166,7 @@ impl<D: Disk> Laptop<D> {
         requires brings { BringsTree nothing_held reply.now }
         requires whole { (t : Nodes) → SpellsTree nothing_held reply.now t → IsWhole t }
         requires script { IsScript script.value }
-        ensures does { (t : Nodes) → SpellsTree nothing_held reply.now t → (scripts : List Declared) (plan : Plan)
-            → Plans D.medium scripts self.old plan
-            → plan.script.code ≡ script.value → Resolves D.medium scripts plan t self.old self.new out.old out.new result }
+        ensures does { Resolves D.medium reply.now script.value self.old self.new out.old out.new result }
         ensures keeps { Keeps D.medium self.old self.new result }
     {
         let count = self.records();
@@ -214,26 +212,21 @@ impl<D: Disk> Laptop<D> {
         ensures place { SamePlace self.old self.new }
         ensures disk { disk_in self.new ≡ disk_in self.old }
     {
-        let doubt = Doubt {
-            count,
-            lines: Text::new(alloc),
-        };
+        let lines = Text::new(alloc);
+        let doubt = Doubt { count, lines };
         self.post
             .take(journaled(answer), doubt, self.name.as_bytes(), out)
     }
 }
 
 /// What became of a transaction of the client of this name that was to end, and has printed this.
-fn certified(name: Name, output: Text, answer: Result<Ended, Halt>) -> Result<Certified, Halt>
-    ensures { result ≡ certified_if name output answer }
+fn certified(client: Name, output: Text, answer: Result<Ended, Halt>) -> Result<Certified, Halt>
+    ensures { result ≡ certified_if client output answer }
 {
     match answer {
-        Ok(Ended::Joined { tid, first }) => Ok(Certified::Joined(Gone {
+        Ok(Ended::Joined { tid: number, first }) => Ok(Certified::Joined(Gone {
             printed: Printed {
-                transaction: Transaction {
-                    client: name,
-                    number: tid,
-                },
+                transaction: Transaction { client, number },
                 output,
             },
             first,

@@ -1,7 +1,7 @@
 //! The events of a client alone: its link, and what may befall its node.
 ghost use Rattle.std.specs.Prelude.{◌≡◌};
 ghost use Rattle.iot_laptop.specs.Below.{Declared, IfErr, IfOk, IsSome, KeepsDisk, List, OnOk, Some, true};
-ghost use Rattle.{iot_machine.specs.Refining.Refines, iot_node.specs.Posts.is_fallen};
+ghost use Rattle.iot_node.specs.Posts.{is_fallen};
 ghost use Rattle.iot_machine.specs.Machine as machine;
 ghost use Rattle.iot_text.specs.Texts.{Extends};
 
@@ -15,17 +15,16 @@ use std::alloc::Global;
 
 impl<D: Disk> Laptop<D> {
     ghost use Rattle.iot_laptop.specs.Alone.{OpensClient};
-    ghost use Rattle.iot_laptop.specs.Calls.{Came, CutsAll, CutsFirst, Keeps, Returned, RunFewer};
+    ghost use Rattle.iot_laptop.specs.Calls.{Befalls, Came, CutsAll, CutsFirst, Keeps, Returned, RunFewer};
     ghost use Rattle.iot_laptop.specs.Laptops.{ClientStands, IsUnopened, KeepsTrails, SamePlace, StandsAnyhow, disk_in, is_alive, state_in};
     ghost use Rattle.iot_machine.specs.Events.{ArmsClient, Connects, CrashesClient, Disconnects, Loses, RestartsClient};
 
     // ---- its link
 
     /// Makes its link up.
-    #[tactic(auto, using(crate::proofs::CallsLaws::stays_trails))]
+    #[tactic(auto, using(iot_stamp::proofs::TrailsLaws::same_stamps))]
     pub fn connect(&mut self, out: &mut Text) -> Result<(), NoMemory>
-        ensures step { OnOk result ((scripts : List Declared)
-            → Refines (ClientStands D.medium scripts) Connects self.old self.new out.old out.new tt) }
+        ensures step { OnOk result (Befalls D.medium Connects self.old self.new out.old out.new tt) }
         ensures trails { KeepsTrails self.old self.new }
         ensures place { SamePlace self.old self.new }
         ensures disk { disk_in self.new ≡ disk_in self.old }
@@ -35,11 +34,10 @@ impl<D: Disk> Laptop<D> {
     }
 
     /// Makes its link not up. What runs is second class from then on.
-    #[tactic(auto, using(crate::proofs::CallsLaws::stays_trails))]
+    #[tactic(auto, using(iot_stamp::proofs::TrailsLaws::same_stamps, crate::proofs::RestartLaws::disconnects))]
     pub fn disconnect(&mut self, out: &mut Text) -> Result<(), NoMemory>
         requires { StandsAnyhow D.medium self.old }
-        ensures step { OnOk result ((scripts : List Declared)
-            → Refines (ClientStands D.medium scripts) Disconnects self.old self.new out.old out.new tt) }
+        ensures step { OnOk result (Befalls D.medium Disconnects self.old self.new out.old out.new tt) }
         ensures trails { KeepsTrails self.old self.new }
         ensures place { SamePlace self.old self.new }
         ensures disk { disk_in self.new ≡ disk_in self.old }
@@ -49,10 +47,9 @@ impl<D: Disk> Laptop<D> {
     }
 
     /// Arms its link to lose a message.
-    #[tactic(auto, using(crate::proofs::CallsLaws::stays_trails))]
+    #[tactic(auto, using(iot_stamp::proofs::TrailsLaws::same_stamps))]
     pub fn lose(&mut self, loss: Loss, out: &mut Text) -> Result<(), NoMemory>
-        ensures step { OnOk result ((scripts : List Declared)
-            → Refines (ClientStands D.medium scripts) (Loses loss) self.old self.new out.old out.new tt) }
+        ensures step { OnOk result (Befalls D.medium (Loses loss) self.old self.new out.old out.new tt) }
         ensures trails { KeepsTrails self.old self.new }
         ensures place { SamePlace self.old self.new }
         ensures disk { disk_in self.new ≡ disk_in self.old }
@@ -67,8 +64,7 @@ impl<D: Disk> Laptop<D> {
     #[tactic(auto, using(crate::proofs::RestartLaws::opens_standing, crate::proofs::RestartLaws::opens_ready))]
     pub fn open(&mut self, alloc: Global, out: &mut Text) -> Result<bool, NoMemory>
         requires { IsUnopened D.medium self.old }
-        ensures step { IfOk result (λ on. (scripts : List Declared)
-            → Refines (ClientStands D.medium scripts) OpensClient self.old self.new out.old out.new on) }
+        ensures step { IfOk result (λ on. Befalls D.medium OpensClient self.old self.new out.old out.new on) }
         ensures trails { OnOk result (KeepsTrails self.old self.new) }
         ensures place { SamePlace self.old self.new }
         ensures disk { KeepsDisk D.medium (disk_in self.old) (disk_in self.new) }
@@ -78,8 +74,7 @@ impl<D: Disk> Laptop<D> {
 
     /// Loses its memory: what is not on its disk is gone.
     pub fn crash(&mut self, out: &mut Text) -> Result<(), NoMemory>
-        ensures step { OnOk result ((scripts : List Declared)
-            → Refines (ClientStands D.medium scripts) CrashesClient self.old self.new out.old out.new tt) }
+        ensures step { OnOk result (Befalls D.medium CrashesClient self.old self.new out.old out.new tt) }
         ensures trails { OnOk result (KeepsTrails self.old self.new) }
         ensures place { SamePlace self.old self.new }
         ensures disk { disk_in self.new ≡ disk_in self.old }
@@ -92,8 +87,7 @@ impl<D: Disk> Laptop<D> {
     #[tactic(auto, using(crate::proofs::RestartLaws::is_standing, crate::proofs::RestartLaws::keeps_then))]
     pub fn restart(&mut self, alloc: Global, out: &mut Text) -> Result<(), NoMemory>
         requires { StandsAnyhow D.medium self.old }
-        ensures step { OnOk result ((scripts : List Declared)
-            → Refines (ClientStands D.medium scripts) RestartsClient self.old self.new out.old out.new tt) }
+        ensures step { OnOk result (Befalls D.medium RestartsClient self.old self.new out.old out.new tt) }
 
         // The image that it came back from decides whether the record in doubt was kept.
         ensures came { is_fallen self.old.post ≡ true → OnOk result ((scripts : List Declared) (m : machine.Client)
@@ -106,13 +100,9 @@ impl<D: Disk> Laptop<D> {
             say(b"up", out)?;
             return Ok(());
         }
-        if !self.post.come_back(
-            alloc,
-            Comeback::Restart,
-            self.place,
-            self.name.as_bytes(),
-            out,
-        )? {
+        let by = Comeback::Restart;
+        let name = self.name.as_bytes();
+        if !self.post.come_back(alloc, by, self.place, name, out)? {
             return Ok(());
         }
         self.cut_off(alloc, out)
@@ -156,8 +146,7 @@ impl<D: Disk> Laptop<D> {
 
     /// Makes a later call of its disk fail, and says so.
     pub fn arm(&mut self, calls: u64, pick: Pick, out: &mut Text) -> Result<(), NoMemory>
-        ensures step { OnOk result ((scripts : List Declared)
-            → Refines (ClientStands D.medium scripts) (ArmsClient calls pick) self.old self.new out.old out.new tt) }
+        ensures step { OnOk result (Befalls D.medium (ArmsClient calls pick) self.old self.new out.old out.new tt) }
         ensures trails { KeepsTrails self.old self.new }
         ensures place { SamePlace self.old self.new }
         ensures same { IfErr result (λ _. self.new ≡ self.old) }

@@ -17,8 +17,8 @@ use iot_tree::{Act, OnConflict, Way};
 use std::alloc::Global;
 
 impl<D: Disk> Laptop<D> {
-    ghost use Rattle.iot_laptop.specs.{Below.waits_of, Calls.IsHeadPlan, Calls.IsNeed, Calls.IsTold, Calls.decision};
-    ghost use Rattle.iot_laptop.specs.{Calls.head_name, Calls.head_reads, Laptops.Stands, Laptops.state_in};
+    ghost use Rattle.iot_laptop.specs.{Below.waits_of, Calls.IsHeadPlan, Calls.IsNeed};
+    ghost use Rattle.iot_laptop.specs.{Calls.IsTold, Calls.decision, Calls.head_name, Calls.head_reads, Laptops.Stands, Laptops.state_in};
 
     /// The name of the first that waits.
     pub fn head(&self) -> Option<Transaction>
@@ -34,9 +34,7 @@ impl<D: Disk> Laptop<D> {
         requires { Stands D.medium self.now }
         ensures { result ≡ decision self.now (state_in self.now).items }
     {
-        let Some(item) = self.client().queue().head() else {
-            return Err(Undecided::Nothing);
-        };
+        let item = self.client().queue().head().ok_or(Undecided::Nothing)?;
         match &item.stage {
             Stage::Manual => Ok(self.transaction(item.tid)),
             Stage::Waiting | Stage::Conflict | Stage::Resolved(_) => Err(Undecided::NotManual),

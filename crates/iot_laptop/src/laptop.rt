@@ -181,10 +181,8 @@ impl<D: Disk> Laptop<D> {
     pub fn transaction(&self, number: u64) -> Transaction
         ensures { result ≡ record { client = self.now.name; number = number } }
     {
-        Transaction {
-            client: self.name,
-            number,
-        }
+        let client = self.name;
+        Transaction { client, number }
     }
 
     /// The tree that it sees.

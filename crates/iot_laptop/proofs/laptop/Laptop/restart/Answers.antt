@@ -1,5 +1,4 @@
-use Rattle.iot_laptop.proofs.CallsLaws.{fresh_trails}
-use Rattle.iot_laptop.proofs.Common.{IfOk-weaker, no_text, rules, sym, ◌∙◌}
+use Rattle.iot_laptop.proofs.{CallsLaws.fresh_trails, Common.IfOk-weaker, Common.no_text, Common.rules, Common.sym, Common.◌∙◌}
 use Rattle.iot_laptop.proofs.RestartLaws.{CameBack, came_again, came_back, comes_back, is_back, keeps_then, says_up, stops_again}
 use Rattle.iot_laptop.proofs.laptop.Laptop.restart.{Given.Over, Goals.In_ok-come_back}
 use Rattle.iot_laptop.proofs.laptop.Laptop.restart.Goals as goal
@@ -9,9 +8,9 @@ back : (g : Over) (c : In_ok-come_back g)
     → CameBack g.D.Disk.medium c.args.self.now c.come_back.new.self c.args.out.now c.come_back.new.out c.in_ok-come_back.field-0
 back g c = record {
   off = sym c.is_alive.ensures ∙ c.if-is_alive.false;
-  steps = rw c.as_bytes.ensures.value at (c.in_ok-come_back.ensures.step no_text);
+  steps = rw c.as_bytes-name.ensures.value at (c.in_ok-come_back.ensures.step no_text);
   is = c.in_ok-come_back.ensures.on;
-  came = rw c.as_bytes.ensures.value at (c.in_ok-come_back.ensures.came no_text);
+  came = rw c.as_bytes-name.ensures.value at (c.in_ok-come_back.ensures.came no_text);
 }
 
 pub returns-then-is_alive-clause-step : goal.returns-then-is_alive-clause-step

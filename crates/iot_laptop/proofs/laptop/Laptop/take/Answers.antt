@@ -1,6 +1,5 @@
-use Rattle.iot_laptop.proofs.CallsLaws.{as_is, called, holds_beside, takes}
-use Rattle.iot_laptop.proofs.Common.{held_live, refl, rules}
-use Rattle.iot_standing.proofs.KeptLaws.{fetched_live}
+use Rattle.iot_laptop.proofs.{CallsLaws.as_is, CallsLaws.called, CallsLaws.holds_beside, CallsLaws.takes, Common.refl, Common.rules}
+use Rattle.iot_standing.proofs.KeptLaws.{fetched_live, held_live}
 use Rattle.iot_laptop.proofs.laptop.Laptop.take.Goals as goal
 
 pub returns-in-Refresh : goal.returns-in-Refresh
@@ -8,10 +7,8 @@ returns-in-Refresh g c =
     let is = c.take_objects-answer.ensures in
     let call = called c.client_mut.ensures.lent c.goes_on.ensures.goes c.records-count.ensures is.tied is.counts is.arms in
     let took = takes call is.only is.brings is.live is.stopped (λ scripts first m here t. held_live here t) (search rules) in
-    rw c.in-Refresh.is (record {
-      takes = rw (as_is c.goes_on.result) at took;
-      running = λ may. holds_beside call _ c.args.reply.now is.brings (λ t. refl);
-    })
+    let runs = holds_beside call _ c.args.reply.now is.brings (λ t. refl) in
+    rw c.in-Refresh.is (record { takes = rw (as_is c.goes_on.result) at took; running = λ may. runs })
 
 pub returns-in-Fetch : goal.returns-in-Fetch
 returns-in-Fetch g c =
@@ -28,7 +25,5 @@ returns-in-Walk g c =
     let call =
     called c.client_mut-in-Walk.ensures.lent c.goes_on-in-Walk.ensures.goes c.records-count.ensures is.tied is.counts is.arms in
     let took = takes call is.only is.brings is.live is.stopped (λ scripts first m here t. held_live here t) (search rules) in
-    rw c.in-Walk.is (record {
-      takes = rw (as_is c.goes_on-in-Walk.result) at took;
-      running = λ may. holds_beside call _ c.args.reply.now is.brings (λ t. refl);
-    })
+    let runs = holds_beside call _ c.args.reply.now is.brings (λ t. refl) in
+    rw c.in-Walk.is (record { takes = rw (as_is c.goes_on-in-Walk.result) at took; running = λ may. runs })
