@@ -1,15 +1,15 @@
 -- The words of which the laws of this crate speak.
-pub use Rattle.std.proofs.Common.{Bool, Bor, Err, IsErrAnd}
-pub use Rattle.std.proofs.Common.{IsSome, List, None, Ok, Option, Result, Some, Vec, ap, arith, bytes_eq, codes, false, length, map, not}
+pub use Rattle.std.proofs.Common.{Bool, Bor, Err, IsErrAnd, IsSome}
+pub use Rattle.std.proofs.Common.{List, None, Ok, Option, Result, Some, Vec, ap, arith, bytes_eq, codes, false, inl, inr, length, map, not}
 pub use Rattle.std.proofs.Common.{refl, rules, slice_get, slice_index_or, subst, sym, true, ℕ, [], ◌++◌, ◌+◌, ◌-◌, ◌<◌, ◌^◌, ◌∙◌, ◌∷◌, ◌≡◌}
 pub use Rattle.std.proofs.lemmas.{List.append-nil, Option.same_Some, Option.slice_get-get_or, Result.on_ok_weaker}
-pub use Rattle.{std.specs.Option.option_copied, std.specs.Prelude.option_map, iot_acts.specs.Traces.after_acts}
-pub use Rattle.{iot_client.specs.declared.steps.Step.Step, iot_disk.specs.Disk.Medium, iot_exchange.specs.Pairs.Asked}
-pub use Rattle.iot_exchange.specs.Pairs.{AsksFor, Both, Came, Does, DoesFrom, IsAt, IsReadyWith, Judgment, KeepsDisks, Objects, PairStands}
-pub use Rattle.iot_exchange.specs.{Pairs.Query, Pairs.UpStands, Pairs.request_of, Pairs.two, Queues.SyncsNext, Saying.line_of}
-pub use Rattle.iot_exchange.specs.{Saying.place_said, Saying.synced_by, Saying.told_synced, Saying.told_text, Scripts.script_of}
-pub use Rattle.iot_exchange.specs.{Scripts.scripts_of, Words.Client, Words.Declared, Words.Goes, Words.Halt, Words.Laptop}
-pub use Rattle.iot_exchange.specs.Words.{LaptopStands, Pair, ServerNode, ServerStands, StepsTo, Try, is_up, name_of, stamps_in, state_in}
+pub use Rattle.std.specs.{List.find, Option.option_copied, Prelude.option_map}
+pub use Rattle.{iot_acts.specs.Traces.after_acts, iot_client.specs.declared.steps.Step.Step, iot_disk.specs.Disk.Medium}
+pub use Rattle.iot_exchange.specs.Pairs.{Asked, AsksFor, Both, Came, Does, DoesFrom, IsAt, IsReadyWith, Judgment, KeepsDisks, Objects}
+pub use Rattle.iot_exchange.specs.{Pairs.PairStands, Pairs.Query, Pairs.UpStands, Pairs.request_of, Pairs.two, Queues.SyncsNext}
+pub use Rattle.iot_exchange.specs.Saying.{line_of, place_said, synced_by, told_synced, told_text}
+pub use Rattle.iot_exchange.specs.{Scripts.script_of, Scripts.scripts_of, Words.Client, Words.Declared, Words.Goes, Words.Halt}
+pub use Rattle.iot_exchange.specs.Words.{Laptop, LaptopStands, Pair, ServerNode, ServerStands, StepsTo, Try, name_of, stamps_in, state_in}
 pub use Rattle.{iot_exchange.specs.declared.declared.DeclaredScript.DeclaredScript, iot_judging.proofs.FollowingLaws.Grows}
 pub use Rattle.iot_judging.specs.{Errands.base_of, Lists.Follows, Lists.state_of, Verdicts.SpellsVerdict}
 pub use Rattle.{iot_kept.specs.Bringing.brought, iot_kept.specs.States.State, iot_lang.specs.Code.Code}

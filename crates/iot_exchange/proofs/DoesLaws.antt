@@ -1,7 +1,7 @@
 -- A client with the server: what they are that are ready, what is known of their disks, how what they do goes together, and how a task is
 -- one of the machine, also if the client is down.
-use Rattle.std.proofs.Common.{inl, is_some, length-append, suc, ◌&&◌, ◌*◌, ◌≤◌}
-use Rattle.{std.specs.Prelude.IsSome, iot_disk.specs.Disk.Storing}
+use Rattle.std.proofs.Common.{is_some, length-append, suc, ◌&&◌, ◌*◌, ◌≤◌}
+use Rattle.iot_disk.specs.Disk.{Storing}
 use Rattle.iot_exchange.proofs.Common.{Answers, Asks, Bool}
 use Rattle.iot_exchange.proofs.Common.{Both, Call, Client, ClientState, Compared, Declared, Does, DoesFrom, EndsAlone, Err, Follows, Goes}
 use Rattle.iot_exchange.proofs.Common.{Halt, IsAt, IsErrAnd, IsReadyWith, Item, ItemsStand, Keeps, KeepsDisk, KeepsDisks, Laptop, List}
@@ -51,21 +51,15 @@ in_place here is place name follows = record {
 
 -- ---- disks
 
-module _ {P I : Type 0} (storing : Storing P I) where
-  -- there are disks, which are as they were
-  keeps_there : (one : Option P) → IsSome one → KeepsDisk storing one one
-  keeps_there None some = absurd cc
-  keeps_there (Some disk) some = record { was = disk; now = disk; old_has = refl; new_has = refl; arms = refl; faults = inl refl }
-
-  -- as there are after a call
-  keeps_new : {old new : Option P} → KeepsDisk storing old new → KeepsDisk storing new new
-  keeps_new {new = new} keeps = keeps_there new (ap is_some keeps.new_has)
+-- there are disks after a call, which stay as they are
+keeps_new : {P I : Type 0} (storing : Storing P I) {old new : Option P} → KeepsDisk storing old new → KeepsDisk storing new new
+keeps_new storing {new = new} keeps = servers.keeps_same storing new new (ap is_some keeps.new_has) refl
 
 module _ {D : Type 0} {medium : Medium D} where
-  -- it still has what it has afterwards
-  served_now : {old new : ServerNode D} → KeepsServed medium old new → KeepsServed medium new new
-  served_now keeps = record {
-    server = keeps_new (on_both medium) keeps.server;
+  -- a server that has its disks keeps them if nothing is done
+  served_same : {server : ServerNode D} → KeepsDisk (on_both medium) (disk_of server) (disk_of server) → KeepsServed medium server server
+  served_same has = record {
+    server = has;
     beside = λ promoted arms had. had;
     records = records_same (on_both medium) _ _ refl;
   }
@@ -82,12 +76,12 @@ module _ {D : Type 0} {medium : Medium D} where
 
   -- so has each its disks afterwards
   pub keeps_now : {u v : Both D} → KeepsDisks medium u v → KeepsDisks medium v v
-  keeps_now keeps = record { client = keeps_new medium keeps.client; served = served_now keeps.served }
+  keeps_now keeps = record { client = keeps_new medium keeps.client; served = served_same (keeps_new (on_both medium) keeps.served.server) }
 
   -- and after one more call of the client alone
   pub keeps_more : {u v : Both D} {laptop : Laptop D} → KeepsDisks medium u v → KeepsDisk medium (disk_in v.laptop) (disk_in laptop)
       → KeepsDisks medium u (two laptop v.server)
-  keeps_more keeps more = keeps_then keeps (record { client = more; served = served_now keeps.served })
+  keeps_more keeps more = keeps_then keeps (record { client = more; served = (keeps_now keeps).served })
 
   -- the client's is the same
   pub keeps_served : {u : Both D} {laptop : Laptop D} {server : ServerNode D} → KeepsDisks medium u u → disk_in laptop ≡ disk_in u.laptop
@@ -108,11 +102,8 @@ module _ {D : Type 0} {medium : Medium D} where
     pub keeps_standing : AnyStands medium scripts names c u pair → KeepsDisks medium u u
     keeps_standing here = record {
       client = restarts.keeps_any medium u.laptop (anyhow here);
-      served = record {
-        server = keeps_there (on_both medium) (disk_of u.server) (servers.has_disk medium names u.server.post pair.server here.server.post);
-        beside = λ promoted arms had. had;
-        records = records_same (on_both medium) (disk_of u.server) (disk_of u.server) refl;
-      };
+      served = served_same
+          (servers.keeps_same (on_both medium) _ _ (servers.has_disk medium names u.server.post pair.server here.server.post) refl);
     }
 
     pub ready_by : UpStands medium scripts names c u pair → IsReadyWith medium scripts u
@@ -161,14 +152,19 @@ module _ {D : Type 0} {medium : Medium D} {scripts : List Declared} where
     disks = keeps_then it.disks more.disks;
   }
 
+  -- memory ran out
+  pub no_memory : {A : Type 0} {call : Try Pair A} {u v : Both D} {x y : List ℕ} {outer : Result A Halt}
+      → IsErrAnd outer (λ halt. halt ≡ NoMemory) → KeepsDisks medium u v → Does medium scripts call u v x y outer
+  no_memory {outer = Ok value} is keeps = absurd is
+  no_memory {outer = Err halt} is keeps = rw is (record { step = λ names c pair here. record { is = tt }; disks = keeps })
+
   -- what a `?` hands on
   pub hands_on : {A B : Type 0} {one : Try Pair A} {next : A → Try Pair B} {u v : Both D} {x y : List ℕ} {inner : Result A Halt}
       {outer : Result B Halt} {fault : Halt} → inner ≡ Err fault → IsErrAnd outer (λ other. other ≡ fault)
       → Does medium scripts one u v x y inner → Does medium scripts (Goes one next) u v x y outer
+  hands_on {fault = NoMemory} was is it = no_memory is it.disks
   hands_on {outer = Ok value} was is it = absurd is
-  hands_on {outer = Err other} {fault = NoMemory} was is it =
-      rw is (record { step = λ names c pair here. record { is = tt }; disks = it.disks })
-  hands_on {outer = Err other} {fault = Over} was is it = rw is (each_from it.disks (λ names c pair here.
+  hands_on {outer = Err other} was is it = rw is (each_from it.disks (λ names c pair here.
       let over = rw was at it in
       let s = (over.step names c pair here).is in behind s (record { is = quiet _ (refl, refl, refl) s.stands })))
 
@@ -229,13 +225,6 @@ module _ {D : Type 0} {medium : Medium D} {scripts : List Declared} where
         };
       })
 
-  -- ---- want of memory
-
-  pub no_memory : {A : Type 0} {call : Try Pair A} {u v : Both D} {x y : List ℕ} {outer : Result A Halt}
-      → IsErrAnd outer (λ halt. halt ≡ NoMemory) → KeepsDisks medium u v → Does medium scripts call u v x y outer
-  no_memory {outer = Ok value} is keeps = absurd is
-  no_memory {outer = Err halt} is keeps = rw is (record { step = λ names c pair here. record { is = tt }; disks = keeps })
-
   -- ---- after a call that goes on
 
   pub ready_after : {A : Type 0} {call : Try Pair A} {u v : Both D} {x y : List ℕ} {a : A} {inner : Result A Halt} → inner ≡ Ok a
@@ -287,13 +276,10 @@ starts script option first = lift_then (lift_gets (λ client. client.node.durabl
 
 -- ---- one that yields
 
-yields_by_pair : (number : ℕ) (pends : Bool) (pair : Pair)
-    → record pair { client = record pair.client { first = yields_by number pends pair.client.first } } ≡ yield_if number pends pair
-yields_by_pair number true pair = refl
-yields_by_pair number false pair = refl
-
 pub yields_pair : (number : ℕ) (pair : Pair) → record pair { client = yielding number pair.client } ≡ yield_if number (pends pair) pair
-yields_pair number pair = yields_by_pair number (pends pair) pair
+yields_pair number pair =
+    elim (pends pair) as (λ b. record pair { client = record pair.client { first = yields_by number b pair.client.first } }
+    ≡ yield_if number b pair) [ true ↦ refl | false ↦ refl ]
 
 pub yields : (number : ℕ) → Lifts (YieldsAlone number) (Yields number)
 yields number = record {

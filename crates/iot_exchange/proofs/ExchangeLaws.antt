@@ -1,18 +1,19 @@
 -- An exchange of a client with the server; what a client asks for, and holds if it comes; and what it knows of its transactions.
-use Rattle.{std.specs.Prelude.nat_lt, std.specs.Prelude.not, std.specs.declared.alloc.Global.Global, iot_exchange.proofs.Common.Asked}
-use Rattle.iot_exchange.proofs.Common.{AsksAll, AsksFor, Bool, Both, Call, Came, Changes, Client, ClientState, Commit, Declared, Does}
-use Rattle.iot_exchange.proofs.Common.{Err, Errand, Follows, Grows, Halt, IsAt, IsOneMessage, IsReply, IsTree, Item, Judgment, KeepsDisks}
-use Rattle.iot_exchange.proofs.Common.{Laptop, LaptopStands, List, Medium, Message, NoMemory, Node, Nodes, None, Notes, Objects, Ok}
-use Rattle.iot_exchange.proofs.Common.{Option, Over, Pair, PairStands, Query, Reclassed, Refresh, Result, ServerNode, ServerStands, Some}
-use Rattle.iot_exchange.proofs.Common.{SpellsCut, SpellsTree, SpellsVerdict, Stamps, StepsTo, UnlessNoMemory, UpStands, Vec, ap, arith}
-use Rattle.iot_exchange.proofs.Common.{base_of, brought, call_one, false, has_any, held_for, hold, is_up, length, new_client, nodes_of}
-use Rattle.iot_exchange.proofs.Common.{nothing_held, pends, refl, reply_laws, reply_spelling, request_of, runs_is, stamps_in, stamps_of}
-use Rattle.iot_exchange.proofs.Common.{state_in, state_of, subst, sym, two, waits_is, waits_of, ℕ, [], ◌++◌, ◌<◌, ◌^◌, ◌∙◌, ◌∷◌, ◌≡◌}
+use Rattle.std.{proofs.Common.◌⊎◌, specs.Prelude.nat_lt, specs.Prelude.not, specs.declared.alloc.Global.Global}
+use Rattle.iot_exchange.proofs.Common.{Asked, AsksAll, AsksFor}
+use Rattle.iot_exchange.proofs.Common.{Bool, Both, Call, Came, Changes, Client, ClientState, Commit, Declared, Does, Err, Errand, Follows}
+use Rattle.iot_exchange.proofs.Common.{Grows, Halt, IsAt, IsOneMessage, IsReply, IsTree, Item, Judgment, KeepsDisks, Laptop, LaptopStands}
+use Rattle.iot_exchange.proofs.Common.{List, Medium, Message, NoMemory, Node, Nodes, None, Notes, Objects, Ok, Option, Over, Pair}
+use Rattle.iot_exchange.proofs.Common.{PairStands, Query, Reclassed, Refresh, Result, ServerNode, ServerStands, Some, SpellsCut, SpellsTree}
+use Rattle.iot_exchange.proofs.Common.{SpellsVerdict, Stamps, StepsTo, UnlessNoMemory, UpStands, Vec, ap, arith, base_of, brought}
+use Rattle.iot_exchange.proofs.Common.{call_one, false, has_any, held_for, hold, inl, inr, length, new_client, nodes_of, nothing_held}
+use Rattle.iot_exchange.proofs.Common.{pends, refl, reply_laws, reply_spelling, request_of, rules, runs_is, stamps_in, stamps_of}
+use Rattle.iot_exchange.proofs.Common.{state_in, state_of, subst, sym, true, two, waits_is, waits_of, ℕ, [], ◌++◌, ◌<◌, ◌^◌, ◌∙◌, ◌∷◌, ◌≡◌}
 use Rattle.iot_exchange.proofs.DoesLaws.{OfEach, StepsOn, answers, by_call, in_place, notes, then_does}
-use Rattle.iot_exchange.proofs.FollowingLaws.{follows_brought, follows_nothing, held_is, makes_cut, nodes_none, nothing_tree, up_stamps}
-use Rattle.iot_exchange.specs.Pairs.{Exchanges, IfReplied, Serves, Spells, answered}
-use Rattle.{iot_exchange.specs.Words.IsErrand, iot_judging.proofs.FollowingLaws.follows_on, iot_laptop.specs.Calls.IsNoFetch}
-use Rattle.iot_laptop.specs.{Calls.MayTake, Calls.TakesReply, Calls.TakesStamps, Laptops.after_passage, Messages.BringsTree}
+use Rattle.iot_exchange.proofs.FollowingLaws.{follows_brought, follows_nothing, held_is, makes_cut, nodes_none, nothing_tree}
+use Rattle.iot_exchange.specs.{Pairs.Exchanges, Pairs.IfReplied, Pairs.Serves, Pairs.Spells, Pairs.answered, Words.IsErrand, Words.is_up}
+use Rattle.iot_judging.proofs.FollowingLaws.{follows_on}
+use Rattle.iot_laptop.specs.{Calls.IsNoFetch, Calls.TakesReply, Calls.TakesStamps, Laptops.after_passage, Messages.BringsTree}
 use Rattle.iot_link.specs.{Links.passage, declared.passages.Passage.Passage}
 use Rattle.iot_link.specs.declared.passages.Passage.TheVariants.{Away, Both as Reaches, ReplyLost, RequestLost}
 use Rattle.iot_machine.proofs.{StepsLaws.asks, StepsLaws.bind, StepsLaws.gets, WholeLaws.whole_comes}
@@ -106,9 +107,6 @@ module _ {D A : Type 0} {medium : Medium D} {scripts : List Declared} {names : L
 
 module _ {D : Type 0} {medium : Medium D} {old new : Laptop D} (server : ServerNode D) {server_up : Bool} {p : Passage}
     (up : server_up ≡ is_up server) (is : p ≡ passage old.link server_up) (after : Reclassed medium (after_passage p) old new) where
-  pub got : {q : Passage} → p ≡ q → q ≡ passage old.link (is_up server)
-  got how = sym how ∙ is ∙ ap (passage old.link) up
-
   module _ {scripts : List Declared} {names : List (List ℕ)} {c : ℕ} where
     -- what the client is then
     linked : {q : Passage} {later : ServerNode D} {pair : Pair} → p ≡ q → UpStands medium scripts names c (two old later) pair
@@ -123,17 +121,18 @@ module _ {D : Type 0} {medium : Medium D} {old new : Laptop D} (server : ServerN
           → StepsOn medium scripts names c (Exchange request) (two old server) v x y a
       exchanged how one = bind (asks (λ pair here.
           let alive = sym (up_is medium names server pair.server pair.requests here.server) in
-          got how ∙ (λ i. passage (here.client.is.link i) (alive i)))) one
+          sym how ∙ is ∙ ap (passage old.link) up ∙ (λ i. passage (here.client.is.link i) (alive i)))) one
 
       -- it was not sent
       pub away : {x : List ℕ} → p ≡ Away
           → StepsOn medium scripts names c (Exchange request) (two old server) (two new server) x x None
       away how = exchanged how (gets (λ pair here. (refl, linked how here)))
 
-      -- or it was lost
-      pub request_lost : {Spelled : List ℕ → A → Type 0} {x : List ℕ} → p ≡ RequestLost
+      -- that, or it was lost
+      pub unsent : {Spelled : List ℕ → A → Type 0} {x : List ℕ} → (p ≡ Away) ⊎ (p ≡ RequestLost)
           → Exchanges (UpStands medium scripts names c) Spelled (Exchange request) None (two old server) (two new server) x x
-      request_lost how = record { is = exchanged how (gets (λ pair here. (refl, linked how here))) }
+      unsent (inl how) = record { is = away how }
+      unsent (inr how) = record { is = exchanged how (gets (λ pair here. (refl, linked how here))) }
 
       module _ {Spelled : List ℕ → A → Type 0} {later : ServerNode D} {x y : List ℕ}
           (grows : (node after : Node (List Commit)) (text : List ℕ) (a : Option A) → request node text a after
@@ -190,10 +189,9 @@ module _ {D : Type 0} {medium : Medium D} {scripts : List Declared} {u : Both D}
 -- ---- what is held
 
 -- what is asked for by itself is held, and what runs goes on
-pub asked_holds : {D : Type 0} (laptop : Laptop D) (errand : code.Errand) → IsNoFetch errand
-    → MayTake errand laptop × (held_for errand ≡ hold)
-asked_holds laptop (errands.Fetch number path) none = absurd none
-asked_holds laptop errand none = (tt, refl)
+pub asked_holds : (errand : code.Errand) → IsNoFetch errand → held_for errand ≡ hold
+asked_holds (errands.Fetch number path) none = absurd none
+asked_holds errand none = refl
 
 brings : {D : Type 0} {medium : Medium D} {scripts : List Declared} {u v : Both D} {x y : List ℕ} (errand : Errand) {names : List (List ℕ)}
     {c : ℕ} {o : Option Nodes} → StepsOn medium scripts names c (Exchange (Lends (state_in u.laptop).held errand)) u v x y o
@@ -234,13 +232,12 @@ same_tree {held} {bytes} short one other =
 -- the reply to a client that holds this lends this tree
 pub record Lent {D : Type 0} (medium : Medium D) (held : Stamps) (errand : Errand) (reply : List ℕ) (call : Call Pair (Option Nodes))
     (u v : Both D) (x y : List ℕ) : Type 0 where
-  pub tree : Nodes
-  pub cut : SpellsCut (stamps_of u.server) held errand reply tree
-  pub spells : SpellsTree (base_of held errand) reply tree
-  pub steps : (scripts : List Declared) (names : List (List ℕ)) (c : ℕ) → StepsOn medium scripts names c call u v x y (Some tree)
+  pub brings : BringsTree (base_of held errand) reply
+  pub cut : SpellsCut (stamps_of u.server) held errand reply brings.tree
+  pub steps : (scripts : List Declared) (names : List (List ℕ)) (c : ℕ) → StepsOn medium scripts names c call u v x y (Some brings.tree)
   -- what is held then still follows the server's list
   pub follows : (scripts : List Declared)
-      → OfEach medium scripts v (λ pair. Follows (brought (base_of held errand) spells.changes) pair.server.durable)
+      → OfEach medium scripts v (λ pair. Follows (brought (base_of held errand) brings.is.changes) pair.server.durable)
 
 module _ {D : Type 0} {medium : Medium D} {message : Message} {reply : Vec ℕ Global} {u v : Both D} {x y : List ℕ}
     (came : Came medium message reply u v x y) where
@@ -254,7 +251,9 @@ module _ {D : Type 0} {medium : Medium D} {message : Message} {reply : Vec ℕ G
     its_stamps : (scripts : List Declared) → OfEach medium scripts v (λ pair. stamps_of u.server ≡ (state_of pair.server.durable).stamps)
     its_stamps scripts names c pair here =
         let stays = came.lends client held errand is in
-        sym stays.1 ∙ up_stamps medium names v.server pair.server pair.requests stays.0 here.server
+        let up : is_up v.server ≡ true = stays.0 in
+        let stands : ServerStands medium names v.server pair.server pair.requests = here.server in
+        let now : stamps_of v.server ≡ (state_of pair.server.durable).stamps = search rules in sym stays.1 ∙ now
 
     abbrev replied : (scripts : List Declared) (names : List (List ℕ)) (c : ℕ)
         → IfReplied (SpellsCut (stamps_of u.server) held errand) (Some reply)
@@ -275,9 +274,8 @@ module _ {D : Type 0} {medium : Medium D} {message : Message} {reply : Vec ℕ G
     lent =
         let first = replied came.ready.scripts came.ready.names came.ready.c in
         let spells = spells_tree first.1 in record {
-          tree = first.0;
+          brings = record { tree = first.0; is = spells };
           cut = first.1;
-          spells = spells;
           steps = λ scripts names c.
               let e = replied scripts names c in rw (same_tree short (spells_tree e.1) spells) at e.2;
           follows = λ scripts names c pair here.
@@ -289,13 +287,10 @@ module _ {D : Type 0} {medium : Medium D} {message : Message} {reply : Vec ℕ G
   -- ---- what a client holds
 
   module _ (errand : Errand) (is : IsErrand u.laptop.place (stamps_in u.laptop) errand message.request.items) where
-    lent_own : Lent medium (stamps_in v.laptop) errand reply.items (Exchange (Lends (state_in u.laptop).held errand)) u v x y
+    -- the reply makes a tree of it, ..
+    pub lent_own : Lent medium (stamps_in v.laptop) errand reply.items (Exchange (Lends (state_in u.laptop).held errand)) u v x y
     lent_own = lent u.laptop.place (stamps_in v.laptop) _ errand (rw came.same is) (rw came.same (held_is u.laptop.post))
         (λ scripts names c pair here. (here.follows, subst IsTree (held_is v.laptop.post) here.client.is.state.tree))
-
-    -- the reply makes a tree of it, ..
-    pub brings_own : BringsTree (base_of (stamps_in v.laptop) errand) reply.items
-    brings_own = record { tree = lent_own.tree; is = lent_own.spells }
 
     -- .. which is held
     pub holds_own : {scripts : List Declared} {new : Laptop D} {z : List ℕ} {inner : Result (Unit {0}) Halt} {outer : Result Bool Halt}
@@ -306,13 +301,13 @@ module _ {D : Type 0} {medium : Medium D} {message : Message} {reply : Vec ℕ G
         → Does medium scripts (Holds change errand) u (two new v.server) x z outer
     holds_own {scripts} {new} {inner = inner} change keeps took after =
         then_does {next = holds change} (λ names c. brings errand (lent_own.steps scripts names c)) keeps
-        (after lent_own.tree (by_call (notes (change lent_own.tree)) keeps took.place (followed inner took.stamps)
-        (took.does lent_own.tree lent_own.spells scripts) took.disk))
+        (after lent_own.brings.tree (by_call (notes (change lent_own.brings.tree)) keeps took.place (followed inner took.stamps)
+        (took.does lent_own.brings.tree lent_own.brings.is scripts) took.disk))
       where
         followed : (inner : Result (Unit {0}) Halt) → TakesStamps (base_of (stamps_in v.laptop) errand) reply.items v.laptop new inner
             → UnlessNoMemory inner (OfEach medium scripts v (λ pair. Follows (stamps_in new) pair.server.durable))
         followed (Ok done) takes =
-            λ names c pair here. rw (takes _ lent_own.spells.spelled) (lent_own.follows scripts names c pair here)
+            λ names c pair here. rw (takes _ lent_own.brings.is.spelled) (lent_own.follows scripts names c pair here)
         followed (Err NoMemory) takes = tt
         followed (Err Over) takes = λ names c pair here. rw takes (follows_nothing pair.server.durable)
 
@@ -326,11 +321,12 @@ module _ {D : Type 0} {medium : Medium D} {message : Message} {reply : Vec ℕ G
     -- the reply makes it of nothing
     pub whole_came : BringsTree nothing_held reply.items × ((t : Nodes) → SpellsTree nothing_held reply.items t → IsWhole t)
     whole_came = (
-      record { tree = lent_whole.tree; is = lent_whole.spells },
+      lent_whole.brings,
       λ t of.
           let cut = lent_whole.cut in
           let same : t ≡ nodes_of (stamps_of u.server) =
-          same_tree short of lent_whole.spells ∙ cut.cut ∙ (λ i. snapshot (nodes_none i) (wanted.Below []) (nodes_of (stamps_of u.server)))
+          same_tree short of lent_whole.brings.is ∙ cut.cut
+          ∙ (λ i. snapshot (nodes_none i) (wanted.Below []) (nodes_of (stamps_of u.server)))
           ∙ whole_comes (nodes_of (stamps_of u.server)) cut.tree in
           subst IsWhole (sym same) cut.whole,
     )

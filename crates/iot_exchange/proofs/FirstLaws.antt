@@ -12,7 +12,7 @@ use Rattle.iot_exchange.proofs.Common.{SpellsTree, SpellsVerdict, Stage, Transac
 use Rattle.iot_exchange.proofs.Common.{kept, length, line, name_of, new_client, nothing_held, option_named, refl, same_Some, script_named}
 use Rattle.iot_exchange.proofs.Common.{slice_get, slice_get-get_or, slice_index_or, stamps_of, state_in, subst, sym, synced_by}
 use Rattle.iot_exchange.proofs.Common.{told_synced, told_text, transaction_name, true, two, waits_of, ℕ, [], ◌++◌, ◌<◌, ◌∙◌, ◌∷◌, ◌≡◌}
-use Rattle.iot_exchange.proofs.DoesLaws.{by_client, each_from, keeps_more, notes, still}
+use Rattle.iot_exchange.proofs.DoesLaws.{asks_then, by_client, each_from, keeps_more, notes, refuses, still}
 use Rattle.iot_exchange.proofs.{ExchangeLaws.asks_whole, ExchangeLaws.lent_whole, ExchangeLaws.whole_errand, FollowingLaws.nodes_none}
 use Rattle.iot_exchange.proofs.StepsLaws.{asks_from, refuses_from, says_from, then_from}
 use Rattle.iot_exchange.specs.{Pairs.MissesAll, Queues.First, Saying.resolver_said, Words.Verdict, declared.queues.Synced.Synced as Sync}
@@ -68,13 +68,11 @@ conflict_stage same is = absurd cc
 -- ---- the first that waits
 
 module _ {D : Type 0} {laptop : Laptop D} {Is : Item → Type 0} {t : Transaction} where
-  first_by : (items : List Item) → (state_in laptop).items ≡ items → head_name laptop items ≡ Some t → HeadIs Is items → First Is laptop t
-  first_by [] same named is = absurd cc
-  first_by (item ∷ rest) same named is =
+  pub first_of : (items : List Item) → (state_in laptop).items ≡ items → head_name laptop items ≡ Some t → HeadIs Is items
+      → First Is laptop t
+  first_of [] same named is = absurd cc
+  first_of (item ∷ rest) same named is =
       record { item = item; rest = rest; items = same; named = sym (same_Some _ _ named); is = is }
-
-  pub first_of : head_name laptop (state_in laptop).items ≡ Some t → HeadIs Is (state_in laptop).items → First Is laptop t
-  first_of named is = first_by (state_in laptop).items refl named is
 
 module _ {D : Type 0} (laptop : Laptop D) where
   pub none_waits : (items : List Item) → head_name laptop items ≡ None → items ≡ []
@@ -214,21 +212,16 @@ module _ {D : Type 0} {medium : Medium D} {scripts : List Declared} {old : Both 
 module _ {D : Type 0} {medium : Medium D} {scripts : List Declared} {old : Both D} {call : clients.Item → Try Pair (Unit {0})}
     {x y : List ℕ} where
   -- it is said why nothing is decided
-  undecided_by : {u : Undecided} (items : List Item) → (state_in old.laptop).items ≡ items → decision old.laptop items ≡ Err u
-      → y ≡ x ++ line (undecided_word u) → (names : List (List ℕ)) (c : ℕ) (pair : Pair) → UpStands medium scripts names c old pair
-      → DoesFrom medium scripts names c (IfManual call) pair old x y (Err Over)
-  undecided_by {u} [] same is wrote names c pair here =
+  pub undecided : {u : Undecided} (items : List Item) → (state_in old.laptop).items ≡ items → decision old.laptop items ≡ Err u
+      → KeepsDisks medium old old → y ≡ x ++ line (undecided_word u) → Does medium scripts (IfManual call) old old x y (Err Over)
+  undecided {u} [] same is keeps wrote =
       let nothing : u ≡ why.Nothing = cc in
-      asks_from {next = if_manual call} (none_here here same) (refuses_from (rw nothing at wrote) (still here))
-  undecided_by (item ∷ items) same is wrote names c pair here =
+      asks_then {next = if_manual call} (λ names c pair here. none_here here same) (refuses keeps (rw nothing at wrote))
+  undecided (item ∷ items) same is keeps wrote = each_from keeps (λ names c pair here.
       let first : First (λ _. Unit {0}) old.laptop (record { client = old.laptop.name; number = item.tid }) =
       record { item = item; rest = items; items = same; named = refl; is = tt } in
       let refused = refused_on old.laptop item (stage_there here first) is in
-      asks_from {next = if_manual call} (sym (head here first).split) (rw refused.1 (refuses_from (rw refused.0 at wrote) (still here)))
-
-  pub undecided : {u : Undecided} → decision old.laptop (state_in old.laptop).items ≡ Err u → KeepsDisks medium old old
-      → y ≡ x ++ line (undecided_word u) → Does medium scripts (IfManual call) old old x y (Err Over)
-  undecided is keeps wrote = record { disks = keeps; step = undecided_by (state_in old.laptop).items refl is wrote }
+      asks_from {next = if_manual call} (sym (head here first).split) (rw refused.1 (refuses_from (rw refused.0 at wrote) (still here))))
 
   -- it is decided of
   pub decides : {t : Transaction} {new : Both D} {result : Result (Unit {0}) Halt}
@@ -239,7 +232,7 @@ module _ {D : Type 0} {medium : Medium D} {scripts : List Declared} {old : Both 
       → Does medium scripts (IfManual call) old new x y result
   decides {t = t} is keeps each = each_from keeps (λ names c pair here.
       let head_is_it = decided old.laptop (state_in old.laptop).items is in
-      let first : First IsByHand old.laptop t = first_of head_is_it.0 head_is_it.1 in
+      let first : First IsByHand old.laptop t = first_of _ refl head_is_it.0 head_is_it.1 in
       let mi = (head here first).first in
       asks_from {next = if_manual call} (sym (head here first).split)
       (rw (manual_stage (stage_there here first) first.is) (each names c mi (λ after there. name_there here first there) pair here)))
@@ -449,18 +442,18 @@ module _ {scripts : List Declared} {held : Nodes} {item : Item} {mi : clients.It
   })
   planned_by option has own is = absurd cc
 
-  planned : ItemIsNamed scripts mi → resolves.plan_of item ≡ Some plan → IsPlannedBy scripts held item mi mi.option plan
-  planned named is = planned_by mi.option named.resolver named.script (rw stands.option at is)
-
 -- the same is planned in each client of the machine for which it stands
 module _ {D : Type 0} {medium : Medium D} {scripts : List Declared} {laptop : Laptop D} {Is : Item → Type 0} {t : Transaction}
-    (first : First Is laptop t) {plan : plans.Plan} (is : resolves.plan_of first.item ≡ Some plan) where
+    (first : First Is laptop t) (plan : plans.Plan) (is : IsHeadPlan (state_in laptop).items plan) where
   module _ (m : Client) (here : LaptopStands medium scripts laptop m) where
     its_head : HeadStands (state_in laptop).held first.item first.rest m.node.durable.items
     its_head = head_stands _ _ _ _ here.state first.item first.rest first.items
 
     its_plan : IsPlannedBy scripts (state_in laptop).held first.item its_head.first its_head.first.option plan
-    its_plan = planned its_head.stands (subst (AllByRecursion (ItemIsNamed scripts)) its_head.split here.named.items).0 is
+    its_plan =
+        let named = (subst (AllByRecursion (ItemIsNamed scripts)) its_head.split here.named.items).0 in
+        planned_by its_head.stands its_head.first.option named.resolver named.script
+        (rw its_head.stands.option at (rw first.items at is).1)
 
   plans_it : {script : Declared} → script_named plan.script scripts ≡ Some script
       → Plans medium scripts laptop (plan_as (after_acts (state_in laptop).held first.item.acts) plan script)
@@ -474,11 +467,6 @@ module _ {D : Type 0} {medium : Medium D} {scripts : List Declared} {laptop : La
 -- the message that asks for it
 abbrev pub asking : Vec ℕ Global → Message
 asking request = record { request = request; handed = None }
-
--- what is planned for the head is planned for it
-plan_is : {D : Type 0} {laptop : Laptop D} {Is : Item → Type 0} {t : Transaction} {plan : plans.Plan} (first : First Is laptop t)
-    → IsHeadPlan (state_in laptop).items plan → resolves.plan_of first.item ≡ Some plan
-plan_is {plan = plan} first is = (rw first.items at is).1
 
 module _ {D : Type 0} {laptop : Laptop D} {t : Transaction} (request : Vec ℕ Global)
     (first : First (λ item. AsksAll laptop item request.items) laptop t) {server : ServerNode D} where
@@ -496,7 +484,7 @@ module _ {D : Type 0} {laptop : Laptop D} {t : Transaction} (request : Vec ℕ G
     -- its script is declared
     pub declared_for : {medium : Medium D} {scripts : List Declared} → IsReadyWith medium scripts (two laptop server)
         → IsSome (script_named plan.script scripts)
-    declared_for ready = rw (its_plan first (plan_is first is) ready.pair.client ready.stands.client.is).named refl
+    declared_for ready = rw (its_plan first plan is ready.pair.client ready.stands.client.is).named refl
 
     -- it is resolved on that by what is planned for it
     pub resolves_told : {medium : Medium D} {scripts : List Declared} {mid : Both D} {new : Laptop D} {x y z w : List ℕ}
@@ -512,11 +500,11 @@ module _ {D : Type 0} {laptop : Laptop D} {t : Transaction} (request : Vec ℕ G
         (NotesAloud (reach (clients.Resolved (resolution_of p u))) (resolve_line (name_of t) (resolver_said plan)) Moved)
         mid (two new mid.server) y w result) → Does medium scripts Syncs (two laptop server) (two new mid.server) x w result
     resolves_told {medium} {scripts} coded came keeps own does after = each_from (keeps_more keeps own.disk) (λ names c pair here.
-        let plans = plans_it {medium = medium} {scripts = scripts} first (plan_is first is) coded.is in
+        let plans = plans_it {medium = medium} {scripts = scripts} first plan is coded.is in
         let p : Plan = plan_as (after_acts (state_in laptop).held first.item.acts) plan coded.script in
         let whole = lent_whole came (asks_whole first.is) in
         resolves_from here first first.is.conflict
         (sym (ap (head_plan (kept pair).held) (head here first).split) ∙ plans pair.client here.client.is)
         (then_from (whole.steps scripts names c) here
-        ((after p whole.tree (by_client (notes (reach (clients.Resolved (resolution_of p whole.tree)))) keeps own
-        (does whole.tree whole.spells scripts p (rw came.same plans) coded.has))).step names c)))
+        ((after p whole.brings.tree (by_client (notes (reach (clients.Resolved (resolution_of p whole.brings.tree)))) keeps own
+        (does whole.brings.tree whole.brings.is scripts p (rw came.same plans) coded.has))).step names c)))

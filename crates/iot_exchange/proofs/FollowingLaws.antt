@@ -1,9 +1,9 @@
 -- A held tree goes on following the server's list: after each request, and by what the server sends.
 use Rattle.iot_client.proofs.TrailsLaws.{nothing_trails}
-use Rattle.iot_exchange.proofs.Common.{Changes, Commit, Errand, Follows, Grows, IsOneMessage, IsReply, IsTree, Judgment, List, Medium, Node}
-use Rattle.iot_exchange.proofs.Common.{Nodes, Objects, Option, Query, Refresh, ServerNode, ServerStands, SpellsCut, SpellsTree, Stamps, ap}
-use Rattle.iot_exchange.proofs.Common.{base_of, brought, call_one, is_up, length, nodes_of, nothing_held, refl, reply_laws, reply_spelling}
-use Rattle.iot_exchange.proofs.Common.{request_of, rules, stamps_of, state_of, subst, sym, true, ℕ, ◌++◌, ◌+◌, ◌<◌, ◌^◌, ◌∙◌, ◌≡◌}
+use Rattle.iot_exchange.proofs.Common.{Changes, Commit, Errand, Follows}
+use Rattle.iot_exchange.proofs.Common.{Grows, IsOneMessage, IsReply, IsTree, Judgment, List, Node, Nodes, Objects, Option, Query, Refresh}
+use Rattle.iot_exchange.proofs.Common.{SpellsCut, SpellsTree, Stamps, ap, base_of, brought, call_one, length, nodes_of, nothing_held}
+use Rattle.iot_exchange.proofs.Common.{refl, reply_laws, reply_spelling, request_of, state_of, subst, sym, ℕ, ◌++◌, ◌+◌, ◌<◌, ◌^◌, ◌∙◌, ◌≡◌}
 use Rattle.{iot_exchange.specs.Pairs.Answered, iot_held.proofs.OutcomeLaws.cut_is as merged_is}
 use Rattle.{iot_held.proofs.OutcomeLaws.cut_tree as merged_tree, iot_hoard.specs.Picking.picked}
 use Rattle.iot_judging.proofs.{FollowingLaws.judged_grows, FollowingLaws.lent_is, FollowingLaws.stays, ListsLaws.list_stamped}
@@ -43,11 +43,6 @@ pub nothing_tree : IsTree (nodes_of nothing_held)
 nothing_tree = subst IsTree (sym nodes_none) (subst IsTree (root_map FarDir) (root_rows FarDir refl).tree)
 
 -- ---- what the server sends
-
--- a live server's stamps are those of its list
-pub up_stamps : {D : Type 0} (medium : Medium D) (names : List (List ℕ)) (server : ServerNode D) (node : Node (List Commit)) (n : ℕ)
-    → is_up server ≡ true → ServerStands medium names server node n → stamps_of server ≡ (state_of node.durable).stamps
-up_stamps medium names server node n up here = search rules
 
 module _ (held : Stamps) (commits : List Commit) (server : Stamps) (errand : Errand) (bytes : List ℕ) (t : Nodes)
     (follows : Follows held commits) (tree : IsTree (nodes_of held)) (is : server ≡ (state_of commits).stamps)

@@ -1,8 +1,8 @@
 -- Scripts that are declared, by their names and by their places.
 use Rattle.std.proofs.{Common.cond, Common.option_map, lemmas.List.get_or-map, lemmas.List.length-map}
-use Rattle.{std.specs.List.find, iot_event.specs.declared.event.Choice.Choice}
-use Rattle.iot_exchange.proofs.Common.{Bor, Code, DeclaredScript, HasNamed, IsCodeOf, IsSome, List}
-use Rattle.iot_exchange.proofs.Common.{None, Option, Some, ap, bytes_eq, false, length, map, option_named, refl, script_at, script_named}
+use Rattle.iot_event.specs.declared.event.Choice.{Choice}
+use Rattle.iot_exchange.proofs.Common.{Bor, Code, DeclaredScript, HasNamed, IsCodeOf, IsSome, List, None}
+use Rattle.iot_exchange.proofs.Common.{Option, Some, ap, bytes_eq, false, find, length, map, option_named, refl, script_at, script_named}
 use Rattle.iot_exchange.proofs.Common.{script_of, scripts_of, slice_get-get_or, slice_index_or, subst, sym, true, ℕ, [], ◌<◌, ◌∙◌, ◌∷◌, ◌≡◌}
 use Rattle.{iot_exchange.specs.Words.IsMeant, iot_exchange.specs.Words.ResolverIsDeclared, iot_machine.specs.Events.chosen}
 use Rattle.{iot_machine.specs.Machine.no_script, iot_standing.specs.Scripts.AreApart, iot_standing.specs.Scripts.IsNamed}
@@ -53,13 +53,13 @@ has_named ws (choices.Resolver place) is apart = named_there ws place is apart
 has_named ws option is apart = tt
 
 abbrev pub meant_there : (ws : List DeclaredScript) {place : ℕ} {w : DeclaredScript} (option : Choice ℕ) {name : named.OnConflict}
-    → place < length ws → w ≡ slice_index_or ws place w → ResolverIsDeclared option (length ws) → AreApart (scripts_of ws)
+    → (place < length ws) × ResolverIsDeclared option (length ws) → w ≡ slice_index_or ws place w → AreApart (scripts_of ws)
     → name ≡ option_named (chosen (scripts_of ws) option) → IsMeant (scripts_of ws) (script_of w) name
-meant_there ws {place} option within is can apart same = record {
+meant_there ws {place} option may is apart same = record {
   on_conflict = chosen (scripts_of ws) option;
   means = record {
-    script_is = subst (IsNamed (scripts_of ws)) (sym (script_there ws within is)) (named_there ws place within apart);
-    resolver = has_named ws option can apart;
+    script_is = subst (IsNamed (scripts_of ws)) (sym (script_there ws may.0 is)) (named_there ws place may.0 apart);
+    resolver = has_named ws option may.1 apart;
     option_is = same;
   };
 }

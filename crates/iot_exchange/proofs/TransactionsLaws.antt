@@ -8,7 +8,7 @@ use Rattle.iot_exchange.proofs.Common.{Answers, Asks, Bool, Bor, Both, Client, C
 use Rattle.iot_exchange.proofs.Common.{Goes, Halt, IsErrAnd, Item, ItemsStand, Keeps, KeepsDisk, KeepsDisks, Laptop, LaptopStands, List}
 use Rattle.iot_exchange.proofs.Common.{Medium, NoMemory, Nodes, None, Notes, Ok, Option, Over, Pair, Reclassed, Repeats, Result, ServerNode}
 use Rattle.iot_exchange.proofs.Common.{Some, Stage, Step, Steps, Tells, Then, Try, UpStands, Yields, act_once, after_acts, again_line}
-use Rattle.iot_exchange.proofs.Common.{ap, append-nil, begin_line, codes, disk_in, done, false, kept, length, line, line_of, map, not}
+use Rattle.iot_exchange.proofs.Common.{ap, append-nil, begin_line, codes, disk_in, done, false, find, kept, length, line, line_of, map, not}
 use Rattle.iot_exchange.proofs.Common.{option_copied, option_map, pends, place_said, refl, same_Some, slice_get, state_in, step_line, subst}
 use Rattle.iot_exchange.proofs.Common.{sym, transaction_name, true, two, unless_over, yield_if, yielding, ℕ, [], ◌++◌, ◌-◌, ◌∙◌, ◌∷◌, ◌≡◌}
 use Rattle.iot_exchange.proofs.DoesLaws.{Certifying, OfEach, answers, asks_then, by_client, certifying, each_from, goes_from, goes_then}
@@ -47,14 +47,13 @@ items_are : (items : List Item) (t : Nodes) (ms : List clients.Item) → ItemsSt
 items_are [] t [] it = refl
 items_are (item ∷ items) t (m ∷ ms) it =
     let rest = items_are items (after_acts t item.acts) ms it.1 ∙ ap (λ (u : Nodes). items_kept u ms) it.0.tree in
-    let stage = stage_is (same_stage item.stage m.stage it.0.stage) in
     (λ i. record {
       tid = it.0.number i;
       script = it.0.name i;
       budget = it.0.budget i;
       acts = it.0.acts i;
       option = it.0.option i;
-      stage = stage i;
+      stage = stage_is (same_stage item.stage m.stage it.0.stage) i;
     } ∷ rest i)
 items_are items t ms it = absurd it
 
@@ -70,8 +69,8 @@ lines_are [] [] m [] classes stand = refl
 lines_are (r ∷ rs) (live ∷ lives) m (it ∷ ms) classes stand =
     let same : r.first ≡ live.first = cc in
     let class : r.first ≡ is_first it.number m = same ∙ stand.0.class in
-    let rest = lines_are rs lives m ms (cc) stand.1 in
-    (λ i. record { tid = stand.0.number i; script = stand.0.name i; first = class i; acts = stand.0.acts i } ∷ rest i)
+    (λ i. record { tid = stand.0.number i; script = stand.0.name i; first = class i; acts = stand.0.acts i }
+    ∷ lines_are rs lives m ms (cc) stand.1 i)
 lines_are rs lives m ms classes stand = absurd stand
 
 -- an element that is lent is the one at its place
@@ -178,25 +177,20 @@ pub record Meant (which : Option ℕ) (number : ℕ) (s : ClientState) : Type 0 
   pub found : clients.numbered number s ≡ Some it
   pub same : it.number ≡ number
 
-meant_number : (k number : ℕ) (s : ClientState) (o : Option Running) → clients.numbered k s ≡ o
-    → option_map (λ it. it.number) o ≡ Some number → Meant (Some k) number s
-meant_number k number s None is named = absurd cc
-meant_number k number s (Some it) is named =
-    let same : it.number ≡ number = same_Some it.number number named in
-    record { it = it; is = is; found = rw (sym (number_found k s.running it is) ∙ same) at is; same = same }
+first_found : (it : Running) (running : List Running) → slice_get running 0 ≡ Some it → find (has_number it.number) running ≡ Some it
+first_found it [] is = absurd cc
+first_found it (first ∷ running) is = rw (same_Some first it is, eq-eqb it.number it.number refl)
 
-meant_first : (number : ℕ) (s : ClientState) (running : List Running) → s.running ≡ running
-    → option_map (λ it. it.number) (slice_get running 0) ≡ Some number → Meant None number s
-meant_first number s [] are named = absurd cc
-meant_first number s (it ∷ running) are named =
-    let same : it.number ≡ number = same_Some it.number number named in
-    let has : has_number number it ≡ true = eq-eqb it.number number same in
-    record { it = it; is = rw are; found = rw (are, has); same = same }
+meant_found : (which : Option ℕ) (s : ClientState) (it : Running) → meant which s ≡ Some it → clients.numbered it.number s ≡ Some it
+meant_found (Some k) s it is = rw (← number_found k s.running it is) at is
+meant_found None s it is = first_found it s.running is
 
-pub meant_as : (which : Option ℕ) (number : ℕ) (s : ClientState) → option_map (λ it. it.number) (meant which s) ≡ Some number
-    → Meant which number s
-meant_as (Some k) number s named = meant_number k number s (clients.numbered k s) refl named
-meant_as None number s named = meant_first number s s.running refl named
+pub meant_as : {which : Option ℕ} {number : ℕ} {s : ClientState} (o : Option Running) → meant which s ≡ o
+    → option_map (λ it. it.number) o ≡ Some number → Meant which number s
+meant_as None is named = absurd cc
+meant_as {which} {s = s} (Some it) is named =
+    let same = same_Some it.number _ named in
+    record { it = it; is = is; found = subst (λ (n : ℕ). clients.numbered n s ≡ Some it) same (meant_found which s it is); same = same }
 
 none_named : (o : Option Running) → option_map (λ it. it.number) o ≡ None → o ≡ None
 none_named None named = refl
@@ -224,7 +218,7 @@ module _ {D : Type 0} {medium : Medium D} {scripts : List Declared} {u : Both D}
       → DoesFrom medium scripts names c (next (Some it)) pair v x y result)
       → Does medium scripts (Then (Asks (λ pair. meant which (kept pair))) next) u v x y result
   for_meant which is keeps each = each_from keeps (λ names c pair here.
-      let r = meant_as which _ (kept pair) (sym (meant_is here.client.is which) ∙ is) in
+      let r = meant_as {which = which} {s = kept pair} _ refl (sym (meant_is here.client.is which) ∙ is) in
       asks_from (sym r.is) (each names c pair r.it here r.found r.same))
 
 -- ---- one that is lent
@@ -262,15 +256,15 @@ module _ {D : Type 0} {medium : Medium D} {scripts : List Declared} (number : �
   module _ {u : Both D} where
     none_yielded : {names : List (List ℕ)} {c : ℕ} {pair : Pair} → clients.numbered number (kept pair) ≡ None
         → UpStands medium scripts names c u pair → UpStands medium scripts names c u (yield_if number (pends pair) pair)
-    none_yielded {names} {c} {pair} none here = by (pends pair)
-      where
-        by : (b : Bool) → UpStands medium scripts names c u (yield_if number b pair)
-        by true =
-            let it = here.client.is in
-            let state = none_yields _ _ _ _ it.state number none in
-            in_place here (record { name = it.name; link = it.link; alive = it.alive; node = it.node; state = state; named = it.named })
-            refl refl here.follows
-        by false = here
+    none_yielded {names} {c} {pair} none here =
+        let it = here.client.is in
+        let state = none_yields _ _ _ _ it.state number none in
+        elim (pends pair) as (λ b. UpStands medium scripts names c u (yield_if number b pair)) [
+          | false ↦ here
+          | true ↦ in_place here
+              (record { name = it.name; link = it.link; alive = it.alive; node = it.node; state = state; named = it.named })
+              refl refl here.follows
+        ]
 
     pub steps_none : {x : List ℕ} → numbered number (state_in u.laptop).running ≡ None → KeepsDisks medium u u
         → Does medium scripts (Steps number loud) u u x x (Ok false)
@@ -370,19 +364,15 @@ module _ {pair n : Pair} {text : List ℕ} {b : Option (Unit {0})} (number : ℕ
       {next = λ o. Then (certifying o) (unless_over (after_found (ended_of it (yield_if it.number (pends pair) pair))))} found
       (regrouped whole)))
 
-module _ {D : Type 0} {medium : Medium D} {scripts : List Declared} {names : List (List ℕ)} {c : ℕ} {pair : Pair} {v : Both D}
-    {x y : List ℕ} {result : Result (Unit {0}) Halt} (it : Running) where
-  over_at : (next : Next) → IsOver next → DoesFrom medium scripts names c (certifies it) pair v x y result
-      → DoesFrom medium scripts names c (end_by it next) pair v x y result
-  over_at AtEnd is does = does
-  over_at AtLimit is does = does
-  over_at next is does = absurd is
+over_at : (it : Running) (next : Next) → IsOver next → end_by it next ≡ certifies it
+over_at it AtEnd is = refl
+over_at it AtLimit is = refl
+over_at it next is = absurd is
 
-  unended_at : (next : Next) → IsUnended next → DoesFrom medium scripts names c (Refuses (codes "not at end")) pair v x y result
-      → DoesFrom medium scripts names c (end_by it next) pair v x y result
-  unended_at AtEnd is does = absurd is
-  unended_at AtLimit is does = absurd is
-  unended_at next is does = does
+unended_at : (it : Running) (next : Next) → IsUnended next → end_by it next ≡ Refuses (codes "not at end")
+unended_at it AtEnd is = absurd is
+unended_at it AtLimit is = absurd is
+unended_at it next is = refl
 
 module _ {D : Type 0} {medium : Medium D} {scripts : List Declared} {u : Both D} (which : Option ℕ) {number : ℕ}
     (is : meant_in which (state_in u.laptop).running ≡ Some number) {x : List ℕ} where
@@ -390,8 +380,9 @@ module _ {D : Type 0} {medium : Medium D} {scripts : List Declared} {u : Both D}
   pub not_ended : {y : List ℕ} → may_end_if_any (numbered number (state_in u.laptop).running)
       (live_numbered number (state_in u.laptop).running (live_in u.laptop)) ≡ false
       → KeepsDisks medium u u → y ≡ x ++ line (codes "not at end") → Does medium scripts (Ends which) u u x y (Err Over)
-  not_ended may keeps wrote = for_meant which is keeps (λ names c pair it here found same. asks_from refl (unended_at it (next_of it pair)
-      ((may_end_is _ _ _ _ here.client.is.state number it found).1 may (is_first it.number pair.client)) (refuses_from wrote (still here))))
+  not_ended may keeps wrote = for_meant which is keeps (λ names c pair it here found same.
+      asks_from refl (rw (unended_at it (next_of it pair) ((may_end_is _ _ _ _ here.client.is.state number it found).1 may
+      (is_first it.number pair.client))) (refuses_from wrote (still here))))
 
   module _ (may : may_end_if_any (numbered number (state_in u.laptop).running)
       (live_numbered number (state_in u.laptop).running (live_in u.laptop)) ≡ true) where
@@ -402,8 +393,8 @@ module _ {D : Type 0} {medium : Medium D} {scripts : List Declared} {u : Both D}
         (Goes (Certifying number) (after_found (ended_of it (yield_if it.number (pends pair) pair)))) pair v x z result)
         → Does medium scripts (Ends which) u v x z result
     certified_then keeps each = for_meant which is keeps (λ names c pair it here found same.
-        asks_from refl (over_at it (next_of it pair)
-        ((may_end_is _ _ _ _ here.client.is.state number it found).0 may (is_first it.number pair.client))
+        asks_from refl (rw (over_at it (next_of it pair)
+        ((may_end_is _ _ _ _ here.client.is.state number it found).0 may (is_first it.number pair.client)))
         (also_from (λ text o n step. certified number it found step) (each names c pair it here found same))))
 
     -- it has ended, this is what it was, and that is said

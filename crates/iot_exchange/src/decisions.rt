@@ -3,7 +3,7 @@ ghost use Rattle.std.specs.Prelude.{◌≡◌};
 ghost use Rattle.iot_exchange.specs.{Pairs.Does, Pairs.IsReady, Pairs.two, Words.Declared, Words.List, Words.ServerNode, Words.Stands};
 ghost use Rattle.{iot_machine.specs.Events.Discards, iot_machine.specs.Events.Repairs, iot_standing.specs.Scripts.IsNamed};
 
-use crate::texts::{say_of, say_repair};
+use crate::texts::{say_by, say_of};
 use iot_disk::Disk;
 use iot_laptop::Laptop;
 use iot_node::{Halt, say};
@@ -25,7 +25,7 @@ pub(crate) fn repair<D: Disk>(
     match laptop.decision() {
         Ok(transaction) => {
             laptop.repair(alloc, script, out)?;
-            Ok(say_repair(&transaction, script, out)?)
+            Ok(say_by(b"repair ", &transaction, script.as_bytes(), out)?)
         }
         Err(undecided) => {
             say(undecided.word(), out)?;

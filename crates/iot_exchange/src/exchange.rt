@@ -30,8 +30,7 @@ pub(crate) fn exchange<D: Disk>(
 {
     let up = server.is_up();
     match laptop.pass(up) {
-        Passage::Away => Ok(None),
-        Passage::RequestLost => Ok(None),
+        Passage::Away | Passage::RequestLost => Ok(None),
         Passage::ReplyLost => {
             let _lost = serve(server, alloc, message, out)?;
             Ok(None)

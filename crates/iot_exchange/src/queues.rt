@@ -1,9 +1,9 @@
 //! The transactions of a client that wait for the server.
 ghost use Rattle.std.specs.Prelude.{◌≡◌};
-ghost use Rattle.iot_exchange.specs.{Pairs.Does, Pairs.IsReady, Pairs.IsReadyWith, Pairs.two, Queues.DrainsQuietly};
-ghost use Rattle.iot_exchange.specs.{Queues.First, Saying.synced_by, Saying.synced_of, Saying.told_synced, Scripts.scripts_of};
-ghost use Rattle.iot_exchange.specs.Words.{Declared, List, Some, SyncsAll, verdict_of};
-ghost use Rattle.iot_laptop.specs.Calls.{AsksAll, HandsIn};
+ghost use Rattle.iot_exchange.specs.Pairs.{Does, IsReady, IsReadyWith, two};
+ghost use Rattle.iot_exchange.specs.{Queues.DrainsQuietly, Queues.First, Saying.synced_by, Saying.synced_of};
+ghost use Rattle.iot_exchange.specs.{Saying.told_synced, Scripts.scripts_of, Words.Declared, Words.List, Words.Some, Words.SyncsAll};
+ghost use Rattle.iot_laptop.specs.{Calls.AsksAll, Calls.HandsIn, Messages.verdict_of};
 ghost use Rattle.iot_machine.specs.{Events.Drains, Transactions.Syncs, Transactions.moves};
 
 use crate::declared::DeclaredScript;

@@ -1,9 +1,8 @@
 //! The lines of a client's transactions.
 ghost use Rattle.std.specs.Prelude.{decimal, ◌++◌, ◌∷◌, ◌≡◌};
-ghost use Rattle.iot_exchange.specs.Saying.{place_said, resolver_said, told_text};
-ghost use Rattle.iot_exchange.specs.Words.{OnOk, codes, name_of, verdict_of};
-ghost use Rattle.iot_machine.specs.Texts.{begin_line, fetch_line, hoard_line};
-ghost use Rattle.iot_machine.specs.Texts.{line, pending_line, question_text, refresh_line, repair_line, resolve_line, step_line, walk_line};
+ghost use Rattle.iot_exchange.specs.{Saying.place_said, Saying.resolver_said, Saying.told_text, Words.OnOk, Words.codes, Words.name_of};
+ghost use Rattle.{iot_laptop.specs.Messages.verdict_of, iot_machine.specs.Texts.begin_line, iot_machine.specs.Texts.fetch_line};
+ghost use Rattle.iot_machine.specs.Texts.{hoard_line, line, pending_line, question_text, refresh_line, resolve_line, step_line, walk_line};
 
 use iot_hoard::size_of;
 use iot_inspect::put_question;
@@ -147,25 +146,22 @@ pub(crate) fn say_read(
 pub(crate) fn say_resolve(transaction: &Transaction, plan: &Plan, out: &mut Text) -> Said
     ensures { OnOk result (out.new ≡ out.old ++ resolve_line (name_of transaction.now) (resolver_said plan.now)) }
 {
-    out.append(b"resolve ")?;
-    transaction.write_to(out)?;
-    out.push(b' ')?;
-    out.append(if plan.keeps {
+    let by = if plan.keeps {
         plan.script.as_bytes()
     } else {
         b"reexec"
-    })?;
-    out.push(b'\n')
+    };
+    say_by(b"resolve ", transaction, by, out)
 }
 
-/// `repair TID S`
-pub(crate) fn say_repair(transaction: &Transaction, script: &Name, out: &mut Text) -> Said
-    ensures { OnOk result (out.new ≡ out.old ++ repair_line (name_of transaction.now) script.now) }
+/// This word of a transaction, and by which script, as `repair TID S`.
+pub(crate) fn say_by(word: &[u8], transaction: &Transaction, script: &[u8], out: &mut Text) -> Said
+    ensures { OnOk result (out.new ≡ out.old ++ line (word.now ++ name_of transaction.now ++ 32 ∷ script.now)) }
 {
-    out.append(b"repair ")?;
+    out.append(word)?;
     transaction.write_to(out)?;
     out.push(b' ')?;
-    out.append(script.as_bytes())?;
+    out.append(script)?;
     out.push(b'\n')
 }
 

@@ -213,7 +213,6 @@ fn join<D: Disk>(
     }
     match sync(laptop, server, alloc, scripts, out)? {
         Synced::Unanswered => Ok(say_pending(&gone.printed, out)?),
-        Synced::Moved => Ok(()),
-        Synced::Stays => Ok(()),
+        Synced::Moved | Synced::Stays => Ok(()),
     }
 }

@@ -1,6 +1,7 @@
-use Rattle.iot_exchange.proofs.{Common.List, Common.ap, Common.line, Common.sym, Common.ℕ, Common.◌++◌, Common.◌∙◌, DoesLaws.by_client}
-use Rattle.iot_exchange.proofs.{DoesLaws.goes_from, DoesLaws.hands_on, DoesLaws.notes, FirstLaws.decides, FirstLaws.undecided}
-use Rattle.{iot_exchange.proofs.StepsLaws.says_from, iot_machine.specs.Clients.leave, iot_machine.specs.Texts.discard_line}
+use Rattle.iot_exchange.proofs.Common.{List, ap, line, refl, sym, ℕ, ◌++◌, ◌∙◌}
+use Rattle.iot_exchange.proofs.DoesLaws.{by_client, goes_from, hands_on, notes}
+use Rattle.iot_exchange.proofs.{FirstLaws.decides, FirstLaws.undecided, StepsLaws.says_from}
+use Rattle.iot_machine.specs.{Clients.leave, Texts.discard_line}
 use Rattle.iot_exchange.proofs.decisions.discard.Goals as goal
 
 pub returns-in_err-discard-in-Ok : goal.returns-in_err-discard-in-Ok
@@ -17,5 +18,5 @@ returns-in_ok-say_of-in-Ok g c server ready scripts =
     ∙ ap (λ (n : List ℕ). c.discard.new.out ++ discard_line n) (sym (named after there))) there))
 
 pub returns-in_ok-say-in-Err : goal.returns-in_ok-say-in-Err
-returns-in_ok-say-in-Err g c server ready scripts = undecided (sym c.decision.ensures ∙ c.in-Err.is) ready.keeps
+returns-in_ok-say-in-Err g c server ready scripts = undecided _ refl (sym c.decision.ensures ∙ c.in-Err.is) ready.keeps
     (c.in_ok-say-in-Err.ensures ∙ ap (λ (word : List ℕ). c.args.out.now ++ line word) c.word.ensures)

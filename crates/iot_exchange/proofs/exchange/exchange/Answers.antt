@@ -1,17 +1,11 @@
-use Rattle.iot_exchange.proofs.ExchangeLaws.{away, comes, none_comes, reply_lost, request_lost}
+use Rattle.iot_exchange.proofs.ExchangeLaws.{comes, none_comes, reply_lost, unsent}
 use Rattle.iot_exchange.proofs.FollowingLaws.{grows}
 use Rattle.iot_exchange.proofs.exchange.exchange.Goals as goal
 
 pub returns-in-Away-clause-replied : goal.returns-in-Away-clause-replied
 returns-in-Away-clause-replied g c = record {
   is = λ scripts names at query asks.
-      record { is = away c.args.server.now c.is_up-up.ensures c.pass.ensures.passage c.pass.ensures.after c.in-Away.is };
-}
-
-pub returns-in-RequestLost-clause-replied : goal.returns-in-RequestLost-clause-replied
-returns-in-RequestLost-clause-replied g c = record {
-  is = λ scripts names at query asks.
-      request_lost c.args.server.now c.is_up-up.ensures c.pass.ensures.passage c.pass.ensures.after c.in-RequestLost.is;
+      unsent c.args.server.now c.is_up-up.ensures c.pass.ensures.passage c.pass.ensures.after c.in-Away.is;
 }
 
 pub returns-in_ok-_lost-in-ReplyLost-clause-replied : goal.returns-in_ok-_lost-in-ReplyLost-clause-replied

@@ -8,4 +8,4 @@ returns-then-not-is_connected-clause-does g c = λ scripts. missed (errand_of c.
     (Objects 0 nothing_held nothing_held (state_in c.args.laptop.now).held (errand_of c.args.errand)) _)
 
 pub returns-clause-does : goal.returns-clause-does
-returns-clause-does g c = rw (asked_holds c.args.laptop.now c.args.errand c.requires.holds).1 at c.send.ensures.does
+returns-clause-does g c = rw (asked_holds c.args.errand c.requires.holds) at c.send.ensures.does

@@ -1,10 +1,10 @@
 use Rattle.iot_exchange.proofs.{Common.errand_of, Common.held_for, Common.refl, DoesLaws.hands_on, DoesLaws.then_answers}
-use Rattle.iot_exchange.proofs.ExchangeLaws.{brings_own, holds_own, no_reply}
+use Rattle.iot_exchange.proofs.ExchangeLaws.{holds_own, lent_own, no_reply}
 use Rattle.iot_exchange.proofs.objects.send.Goals as goal
 
 pub take-requires-clause-brings : goal.take-requires-clause-brings
 take-requires-clause-brings g c = rw c.deref.ensures.value
-    (brings_own (rw c.in-Some.is at c.in_ok-reply.ensures.replied) (errand_of c.args.errand) c.requires.asks)
+    (lent_own (rw c.in-Some.is at c.in_ok-reply.ensures.replied) (errand_of c.args.errand) c.requires.asks).brings
 
 pub returns-in_err-take-in-Some-clause-does : goal.returns-in_err-take-in-Some-clause-does
 returns-in_err-take-in-Some-clause-does g c scripts =

@@ -14,13 +14,11 @@ unreachable-requires g c =
 
 pub resolve-requires-clause-brings : goal.resolve-requires-clause-brings
 resolve-requires-clause-brings g c =
-    let came = rw c.in-Some.is at c.in_ok-reply.ensures.replied in
-    rw c.deref.ensures.value (whole_came came (asks_whole c.requires.first.is)).0
+    rw c.deref.ensures.value (whole_came (rw c.in-Some.is at c.in_ok-reply.ensures.replied) (asks_whole c.requires.first.is)).0
 
 pub resolve-requires-clause-whole : goal.resolve-requires-clause-whole
 resolve-requires-clause-whole g c =
-    let came = rw c.in-Some.is at c.in_ok-reply.ensures.replied in
-    rw c.deref.ensures.value (whole_came came (asks_whole c.requires.first.is)).1
+    rw c.deref.ensures.value (whole_came (rw c.in-Some.is at c.in_ok-reply.ensures.replied) (asks_whole c.requires.first.is)).1
 
 pub returns-in_err-resolve-in-Some : goal.returns-in_err-resolve-in-Some
 returns-in_err-resolve-in-Some g c =

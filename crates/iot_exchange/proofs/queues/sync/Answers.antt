@@ -1,4 +1,4 @@
-use Rattle.iot_exchange.proofs.Common.{sym, ◌∙◌}
+use Rattle.iot_exchange.proofs.Common.{refl, sym, ◌∙◌}
 use Rattle.iot_exchange.proofs.FirstLaws.{decided, first_of, is_undecided, none_waits, syncs_away, syncs_by_hand, syncs_none}
 use Rattle.iot_exchange.proofs.queues.sync.Goals as goal
 
@@ -8,25 +8,25 @@ returns-in_default g c =
 
 pub submit-requires-clause-first : goal.submit-requires-clause-first
 submit-requires-clause-first g c =
-    first_of (sym c.head.ensures ∙ c.in-Some.is) (rw c.in-Verdict.is at c.in_ok-submitted.ensures)
+    first_of _ refl (sym c.head.ensures ∙ c.in-Some.is) (rw c.in-Verdict.is at c.in_ok-submitted.ensures)
 
 pub resolve-requires-clause-first : goal.resolve-requires-clause-first
-resolve-requires-clause-first g c = first_of (sym c.head.ensures ∙ c.in-Some.is) (rw c.in-Tree.is at c.in_ok-submitted.ensures)
+resolve-requires-clause-first g c = first_of _ refl (sym c.head.ensures ∙ c.in-Some.is) (rw c.in-Tree.is at c.in_ok-submitted.ensures)
 
 pub returns-in_ok-say_of-in-Ok : goal.returns-in_ok-say_of-in-Ok
 returns-in_ok-say_of-in-Ok g c =
-    syncs_by_hand (first_of (sym c.head.ensures ∙ c.in-Some.is) (decided c.args.laptop.now _ (sym c.decision.ensures ∙ c.in-Ok.is)).1)
-    c.requires.ready.keeps c.in_ok-say_of-in-Ok.ensures
+    syncs_by_hand (first_of _ refl (sym c.head.ensures ∙ c.in-Some.is)
+    (decided c.args.laptop.now _ (sym c.decision.ensures ∙ c.in-Ok.is)).1) c.requires.ready.keeps c.in_ok-say_of-in-Ok.ensures
 
 pub returns-in_ok-say-in-Err : goal.returns-in_ok-say-in-Err
 returns-in_ok-say-in-Err g c =
     let named = sym c.head.ensures ∙ c.in-Some.is in
-    syncs_away (first_of named (is_undecided c.args.laptop.now _ named (sym c.decision.ensures ∙ c.in-Err.is)))
+    syncs_away (first_of _ refl named (is_undecided c.args.laptop.now _ named (sym c.decision.ensures ∙ c.in-Err.is)))
     c.miss.ensures.disks (c.miss.ensures.all _) c.in_ok-say-in-Err.ensures
 
 pub returns-in_ok-say_of-in-Decision : goal.returns-in_ok-say_of-in-Decision
 returns-in_ok-say_of-in-Decision g c =
-    syncs_by_hand (first_of (sym c.head.ensures ∙ c.in-Some.is) (rw c.in-Decision.is at c.in_ok-submitted.ensures))
+    syncs_by_hand (first_of _ refl (sym c.head.ensures ∙ c.in-Some.is) (rw c.in-Decision.is at c.in_ok-submitted.ensures))
     c.requires.ready.keeps c.in_ok-say_of-in-Decision.ensures
 
 pub returns-in-Verdict : goal.returns-in-Verdict

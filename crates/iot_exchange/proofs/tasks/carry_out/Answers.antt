@@ -16,29 +16,28 @@ returns-in-Discard g c = rw c.in-Discard.is (c.discard.ensures c.args.server.now
 
 pub run-requires-clause-meant : goal.run-requires-clause-meant
 run-requires-clause-meant g c =
-    let may = rw c.in-Run.is at c.requires.may in
-    meant_there c.args.scripts.now c.in-Run.option may.0 c.index-scripts-script.is may.1 c.requires.apart c.by_name-chosen.ensures
+    meant_there c.args.scripts.now c.in-Run.option (rw c.in-Run.is at c.requires.may) c.index-scripts-script.is c.requires.apart
+    c.by_name-chosen.ensures
 
 pub returns-in-Run : goal.returns-in-Run
 returns-in-Run g c =
     let may = rw c.in-Run.is at c.requires.may in
     rw (c.in-Run.is, ← script_there c.args.scripts.now may.0 c.index-scripts-script.is) (c.run.ensures _
-    (meant_there c.args.scripts.now c.in-Run.option may.0 c.index-scripts-script.is may.1 c.requires.apart c.by_name-chosen.ensures).means)
+    (meant_there c.args.scripts.now c.in-Run.option may c.index-scripts-script.is c.requires.apart c.by_name-chosen.ensures).means)
 
 pub begin_aloud-requires : goal.begin_aloud-requires
-begin_aloud-requires g c =
-    let may = rw c.in-Begin.is at c.requires.may in (
-      scripts_of c.args.scripts.now,
-      c.requires.ready,
-      meant_there c.args.scripts.now c.in-Begin.option may.0 c.index-scripts-script-in-Begin.is may.1 c.requires.apart
-          c.by_name-chosen-in-Begin.ensures,
-    )
+begin_aloud-requires g c = (
+  scripts_of c.args.scripts.now,
+  c.requires.ready,
+  meant_there c.args.scripts.now c.in-Begin.option (rw c.in-Begin.is at c.requires.may) c.index-scripts-script-in-Begin.is
+      c.requires.apart c.by_name-chosen-in-Begin.ensures,
+)
 
 pub returns-in-Begin : goal.returns-in-Begin
 returns-in-Begin g c =
     let may = rw c.in-Begin.is at c.requires.may in
     rw (c.in-Begin.is, ← script_there c.args.scripts.now may.0 c.index-scripts-script-in-Begin.is) (c.begin_aloud.ensures _ _
-    (meant_there c.args.scripts.now c.in-Begin.option may.0 c.index-scripts-script-in-Begin.is may.1 c.requires.apart
+    (meant_there c.args.scripts.now c.in-Begin.option may c.index-scripts-script-in-Begin.is c.requires.apart
     c.by_name-chosen-in-Begin.ensures).means)
 
 pub returns-in-Repair : goal.returns-in-Repair

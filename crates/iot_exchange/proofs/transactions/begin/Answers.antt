@@ -9,10 +9,9 @@ returns-then-is_full g c scripts on_conflict means =
 
 pub returns-then-waits : goal.returns-then-waits
 returns-then-waits g c scripts on_conflict means =
-    let did = rw c.in_ok-code.ensures.value at c.begin.ensures.does in
     asks_then (full_here (sym c.is_full.ensures ∙ c.if-is_full.false)) (asks_then (pends_here (sym c.waits.ensures ∙ c.if-waits.true))
     (by_client (starts (script_of c.args.script.now) on_conflict false) c.requires.keeps c.begin.ensures.keeps
-    (did scripts on_conflict means.script_is means.resolver means.option_is)))
+    ((rw c.in_ok-code.ensures.value at c.begin.ensures.does) scripts on_conflict means.script_is means.resolver means.option_is)))
 
 pub returns-in_err-first : goal.returns-in_err-first
 returns-in_err-first g c scripts on_conflict means =
@@ -24,8 +23,8 @@ begin-requires-2-clause-stands g c = (ready_after c.in_ok-first.was (c.bring.ens
 
 pub returns : goal.returns
 returns g c scripts on_conflict means =
-    let did = rw c.in_ok-code.ensures.value at c.begin-2.ensures.does in
     asks_then (full_here (sym c.is_full.ensures ∙ c.if-is_full.false)) (asks_then (pends_here (sym c.waits.ensures ∙ c.if-waits.false))
     (goes_then c.in_ok-first.was (c.bring.ensures.does scripts)
     (by_client (starts (script_of c.args.script.now) on_conflict c.in_ok-first.first) (c.bring.ensures.does scripts).disks
-    c.begin-2.ensures.keeps (did scripts on_conflict means.script_is means.resolver means.option_is))))
+    c.begin-2.ensures.keeps
+    ((rw c.in_ok-code.ensures.value at c.begin-2.ensures.does) scripts on_conflict means.script_is means.resolver means.option_is))))

@@ -1,4 +1,4 @@
-use Rattle.iot_exchange.proofs.Common.{ap, synced_by}
+use Rattle.iot_exchange.proofs.Common.{ap, inl, inr, synced_by}
 use Rattle.iot_exchange.proofs.{DoesLaws.answers, DoesLaws.goes_then, DoesLaws.hands_on, DoesLaws.tells, TransactionsLaws.ends_aloud}
 use Rattle.iot_exchange.proofs.transactions.join.Goals as goal
 
@@ -21,9 +21,7 @@ returns-in_ok-say_pending-in-Unanswered g c =
 pub returns-in-Moved : goal.returns-in-Moved
 returns-in-Moved g c =
     ends_aloud c.args.gone.now c.requires.ready.keeps c.in_ok-say_of.ensures c.if-not-gone.false
-    (goes_then (ap synced_by (rw c.in-Moved.is at c.in_ok-sync.was)) c.sync.ensures (answers c.sync.ensures.disks))
-
-pub returns-in-Stays : goal.returns-in-Stays
-returns-in-Stays g c =
-    ends_aloud c.args.gone.now c.requires.ready.keeps c.in_ok-say_of.ensures c.if-not-gone.false
-    (goes_then (ap synced_by (rw c.in-Stays.is at c.in_ok-sync.was)) c.sync.ensures (answers c.sync.ensures.disks))
+    (elim c.in-Moved.is [
+      | inl moved ↦ goes_then (ap synced_by (rw moved at c.in_ok-sync.was)) c.sync.ensures (answers c.sync.ensures.disks)
+      | inr stays ↦ goes_then (ap synced_by (rw stays at c.in_ok-sync.was)) c.sync.ensures (answers c.sync.ensures.disks)
+    ])
