@@ -2,7 +2,7 @@
 use Rattle.std.proofs.Common.{◌≡◌, ℕ, suc, ◌+◌, ◌<◌, ◌≤◌, List, [], ◌∷◌, ◌++◌, length, map, take, drop, slice_index_or}
 use Rattle.std.proofs.Common.{Option, Some, None, true}
 use Rattle.std.proofs.Common.{refl, sym, ap, subst, ◌∙◌, append_assoc, add-one, inl, inr, arith}
-use Rattle.std.proofs.lemmas.List.{append-nil, length-append, length-map, take_all, take-append-drop}
+use Rattle.std.proofs.lemmas.List.{append-nil, drop_more, length-append, length-map, take_all, take-append-drop}
 use Rattle.std.proofs.Common.{◌||◌, Bool, false}
 use Rattle.std.proofs.Math.Seq.{drop-cons, take-suc}
 use Rattle.std.specs.Io.KnownBytes.{Appends}
@@ -23,8 +23,8 @@ use Rattle.iot_world.specs.World.{Each, Opens, KeepsDisks, SameArms, GivesBack, 
 use Rattle.iot_world.specs.declared.world.World.{World}
 use Rattle.iot_world.proofs.AllowedLaws as worlds
 use Rattle.iot_world.proofs.BeginsLaws.{begins_or}
-use Rattle.iot_world.proofs.HoldingLaws.{used_first, eight_spare, eight_counts, disks_hold, disks_count, hold_count, placed_in}
-use Rattle.iot_world.proofs.HoldingLaws.{hold_begins, still_begins_at, world_begins}
+use Rattle.iot_world.proofs.HoldingLaws.{used_first, eight_spare, eight_counts, disks_hold, disks_count, placed_in}
+use Rattle.iot_world.proofs.HoldingLaws.{still_begins_at, world_begins}
 use Rattle.iot_world.proofs.PlacesLaws.{ends_as, server_list}
 use Rattle.iot_world.specs.Disks.{CountsServer, place_of}
 use Rattle.iot_world.specs.Prelude.{Client, HasPlaces}
@@ -181,7 +181,7 @@ module _ {D : Type 0} (medium : Medium D) where
       ends = record { first = first; last = last; others = others; is = used_first medium world m stands };
       counted = since_then m first last first last (two_same first last) others others counted (unarmed others);
       begins =
-          begins_or medium m.server.durable m.promoted (promotes_next later) first last (world_begins medium is_image world m stands);
+          begins_or medium m.server.durable m.promoted (promotes_next later) first last (world_begins medium world m stands is_image);
       eight = eight_counts medium world m stands;
       spare = omega (arith, eight_spare medium world m stands);
     }
@@ -228,8 +228,8 @@ module _ {D : Type 0} (medium : Medium D) (disks : List D) (before world : World
   pub disks_keep : ((disk : D) → medium.may_leave disk (medium.reads disk)) → (m : Machine) → StandsFor medium world m
       → DisksKeep medium disks (disks_of world) m
   disks_keep is_image m here = record {
-    holds = disks_hold medium is_image disks before world m x y here opens same;
-    counted = hold_count medium is_image disks before world m x y here opens same;
+    holds = disks_hold medium world m here is_image opens same;
+    counted = disks_count medium world m here;
   }
 
   pub disks_keep_at : ((disk : D) → medium.may_leave disk (medium.reads disk)) → (place : ℕ)
@@ -239,7 +239,7 @@ module _ {D : Type 0} (medium : Medium D) (disks : List D) (before world : World
   disks_keep_at is_image place at m here = record {
     keeps = disks_keep is_image m here;
     at = at m here;
-    begins = hold_begins medium is_image disks before world m x y here opens same;
+    begins = world_begins medium world m here is_image;
   }
 
   -- and what is known of them if memory ran out
@@ -308,7 +308,7 @@ plays_none medium handed so events opening world is declared said = record {
   transcript = transcript_none handed is.machine opening is.step;
   stands = is.stands;
   said = said;
-  declared = worlds.declared_new world is.no_clients is.no_scripts events declared;
+  declared = rw (is.no_clients, is.no_scripts) declared;
 }
 
 -- the event that is done next, and the text that it is added to
@@ -323,7 +323,7 @@ module _ {D : Type 0} (medium : Medium D) (handed : List Counts) (so : List ℕ 
       ∙ ap (λ (e : Event). take done events ++ e ∷ []) (sym here)
 
   rest : drop done events ≡ event ∷ drop (done + 1) events
-  rest = worlds.next_is events done event within here
+  rest = drop_more events done event within ∙ ap (λ (e : Event). e ∷ drop (done + 1) events) (sym here)
 
   record Next : Type 0 where
     says : List ℕ

@@ -1,9 +1,8 @@
 -- Of events that are declared the next one may come, and those behind it stay declared.
-use Rattle.std.proofs.lemmas.List.{drop_more}
-use Rattle.iot_event.specs.{Declarations.ClientEventIsDeclared, declared.event.ClientEvent.ClientEvent}
-use Rattle.iot_world.proofs.Common.{DeclaredOn, Event, List, Profile, World, ap}
-use Rattle.iot_world.proofs.Common.{client_count, drop, length, script_names, slice_index_or, subst, sym, ℕ, [], ◌+◌, ◌<◌, ◌∙◌, ◌∷◌, ◌≡◌}
-use Rattle.iot_world.specs.{Allowed.IsAllowed, Allowed.MayBefall, Prelude.AreDeclared}
+use Rattle.{std.proofs.lemmas.List.drop_more, iot_event.specs.Declarations.ClientEventIsDeclared}
+use Rattle.{iot_event.specs.declared.event.ClientEvent.ClientEvent, iot_world.proofs.Common.DeclaredOn, iot_world.proofs.Common.Event}
+use Rattle.iot_world.proofs.Common.{List, Profile, World, client_count, drop, length, script_names, slice_index_or, ℕ, ◌+◌, ◌<◌, ◌∷◌, ◌≡◌}
+use Rattle.iot_world.specs.Allowed.{IsAllowed, MayBefall}
 use Rattle.iot_event.specs.declared.event.ClientEvent.TheVariants as client_events
 use Rattle.iot_event.specs.declared.event.Event.TheVariants as events
 use Rattle.iot_event.specs.declared.event.Task.TheVariants as tasks
@@ -25,21 +24,11 @@ allowed_first (events.Script name code) later world declared = declared.1
 allowed_first (events.At client what) later world declared = (declared.0, may_befall what _ declared.1)
 allowed_first event later world declared = tt
 
--- events that are declared after nothing are declared in a world that has nothing
-pub declared_new : {D : Type 0} (world : World D) → client_count world ≡ 0 → script_names world ≡ []
-    → (events : List Event) → AreDeclared events 0 [] → DeclaredOn events world
-declared_new world no_clients no_scripts events declared = rw (no_clients, no_scripts) declared
-
--- what is left of a list behind so many is the next one and what is behind it
-pub next_is : {A : Type 0} (xs : List A) (done : ℕ) (x : A) → done < length xs → x ≡ slice_index_or xs done x
-    → drop done xs ≡ x ∷ drop (done + 1) xs
-next_is xs done x within here = drop_more xs done x within ∙ ap (λ (y : _). y ∷ drop (done + 1) xs) (sym here)
-
 -- so many events are done in turn, those behind them are declared, and this is the next one
 module _ {D : Type 0} (events : List Event) (done : ℕ) (event : Event) (world : World D) (declared : DeclaredOn (drop done events) world)
     (within : done < length events) (here : event ≡ slice_index_or events done event) where
   left : DeclaredOn (event ∷ drop (done + 1) events) world
-  left = subst (λ (es : List Event). DeclaredOn es world) (next_is events done event within here) declared
+  left = rw (drop_more events done event within, ← here) at declared
 
   -- it may come
   pub next_allowed : IsAllowed event (client_count world) (script_names world)

@@ -15,7 +15,7 @@ pub use Rattle.iot_machine.specs.{Events.node_part, Machine.client_at, Machine.c
 pub use Rattle.iot_machine.specs.{Nodes.paired, Refining.StepFrom, Refining.StepsTo, Serving.kept_text, Serving.server_name, Texts.line}
 pub use Rattle.iot_node.specs.{Disks.counts_on, Posts.PostStands, Prelude.next, declared.post.Post.Post}
 pub use Rattle.iot_node.specs.declared.post.Post.TheVariants.{Between, Down, Up}
-pub use Rattle.iot_server_node.{proofs.BeginningLaws.commits_same, specs.Disks.Image}
+pub use Rattle.iot_server_node.{proofs.BackupLaws.placed_in, proofs.BeginningLaws.commits_same, specs.Disks.Image}
 pub use Rattle.iot_server_node.specs.{Disks.on_both, Disks.other_of, Disks.placed, Keepers.lists, Servers.HavingAnswered, Servers.IsBeside}
 pub use Rattle.iot_server_node.specs.{Servers.KeepsBeside, Servers.KeepsCommits, Servers.is_up, declared.keeper.ServerKeeper.ServerKeeper}
 pub use Rattle.{iot_server_node.specs.declared.server.ServerNode.ServerNode, iot_store.specs.Store.state_of}

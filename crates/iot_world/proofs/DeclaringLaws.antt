@@ -6,7 +6,7 @@ use Rattle.{iot_client.specs.Messages.nothing_held, iot_event.specs.Meanings.is_
 use Rattle.{iot_exchange.specs.Scripts.script_of, iot_lang.specs.Code.Code, iot_laptop.specs.Laptops.unopened_laptop}
 use Rattle.iot_machine.proofs.{FollowsLaws.all_push, MachinesLaws.added_at, SoundLaws.sound_opening}
 use Rattle.iot_machine.proofs.StepsLaws.{at_one, joined as one_then, nothing, says_this}
-use Rattle.iot_machine.specs.{Calls.goes_on, Events.Declares, Events.add_client, Events.client_of, Machine.first_of}
+use Rattle.iot_machine.specs.{Calls.goes_on, Events.Declares, Events.add_client, Events.client_of}
 use Rattle.iot_machine.specs.{Machine.handed, Machine.last_of, Nodes.no_counts, Nodes.unopened, Stops.OpensNode, Transcript.Opening}
 use Rattle.{iot_node.specs.Disks.IsEmpty, iot_server_node.proofs.ServersLaws.more_names, iot_standing.proofs.ScriptsLaws.if_more}
 use Rattle.iot_standing.{proofs.ScriptsLaws.named_more, proofs.ScriptsLaws.state_more, specs.Scripts.AreApart, specs.Scripts.IsNamed}
@@ -28,15 +28,6 @@ use Rattle.iot_exchange.specs.Scripts as exchange
 use Rattle.iot_machine.specs.Machine as machine
 
 -- ---- scripts by their names, as more are declared
-
-module _ {D : Type 0} (medium : Medium D) (scripts : List Declared) (one : Declared) where
-  client_more : (laptop : Laptop D) (m : machine.Client) → ClientStands medium scripts laptop m
-      → ClientStands medium (scripts ++ one ∷ []) laptop m
-  client_more laptop m here =
-      let is = state_more scripts one m.node.durable here.named.is in
-      let may_be = if_more scripts one m.node.doubt here.named.may_be in search rules
-
--- ---- scripts with names of their own
 
 apart_more : (scripts : List Declared) (one : Declared) → AreApart scripts → script_named one.name scripts ≡ None
     → AreApart (scripts ++ one ∷ [])
@@ -70,11 +61,6 @@ before_is first last others eight =
 
 module _ {D : Type 0} (medium : Medium D) (disks : List D) (first last : D) (rest : List D) (split : disks ≡ with_ends first last rest)
     (fresh : AreFresh medium disks) where
-  pub each_fresh : IsEmpty medium first × AllByRecursion (IsEmpty medium) rest × IsEmpty medium last
-  each_fresh =
-      let all = rw split at fresh.each in
-      let others = all_split (IsEmpty medium) rest last all.1 in (all.0, others.0, others.1)
-
   eight_left : length rest ≡ 8
   eight_left = omega (arith, ap length split, ends_length first last rest, fresh.ten)
 
@@ -112,7 +98,7 @@ module _ {D : Type 0} (medium : Medium D) (disks : List D) (first last : D) (res
           scripts = ap (λ (ss : List DeclaredScript). exchange.scripts_of ss) (sym no_scripts);
           apart = λ place script at. absurd cc;
           placed = rw no_clients (λ place laptop at. absurd cc);
-          spare = rw others each_fresh.1;
+          spare = rw others (all_split (IsEmpty medium) rest last (rw split at fresh.each).1).0;
           counts = ap (map (counts_on medium)) others;
           eight = omega (arith, ap length no_clients, ap length others, eight_left);
         } in
@@ -235,20 +221,19 @@ module _ {D : Type 0} (medium : Medium D) (name : List ℕ) (old : World D) (cli
         then_says true is = says_this is
         then_says false is = rw is nothing
 
-module _ {D : Type 0} (medium : Medium D) where
-  -- ---- a script
-
-  pub declares_script : (name : List ℕ) (code : Code) (old : World D) (scripts : Vec DeclaredScript Global) (x : List ℕ)
-      → is_declared name (script_names old) ≡ false → scripts.items ≡ old.scripts.items ++ record { name = name; script = code } ∷ []
-      → MakesStep medium (event_part (events.Script name code)) old (record old { scripts = scripts }) x x tt
-  declares_script name code old scripts x none adds = does (λ m here.
-      let both =
-      each_map (StandsIn medium m.scripts m.server.durable) (StandsIn medium (m.scripts ++ one ∷ []) m.server.durable)
-      (λ laptop k it. record { client = client_more medium m.scripts one laptop k it.client; follows = it.follows })
-      old.clients.items m.clients here.clients_ in
-      let all : m.scripts ++ one ∷ [] ≡ exchange.scripts_of scripts.items = rw (here.scripts, adds, map-append) in
-      let apart = apart_more m.scripts one here.apart (ap (script_named name) here.scripts ∙ undeclared old.scripts.items name none) in
-      (sym (append-nil x), search rules))
-    where
-      one : Declared
-      one = record { name = name; code = code }
+pub declares_script : {D : Type 0} (medium : Medium D) (name : List ℕ) (code : Code) (old : World D) (scripts : Vec DeclaredScript Global)
+    (x : List ℕ) → is_declared name (script_names old) ≡ false
+    → scripts.items ≡ old.scripts.items ++ record { name = name; script = code } ∷ []
+    → MakesStep medium (event_part (events.Script name code)) old (record old { scripts = scripts }) x x tt
+declares_script medium name code old scripts x none adds = does (λ m here.
+    let one : Declared = record { name = name; code = code } in
+    let both =
+    each_map (StandsIn medium m.scripts m.server.durable) (StandsIn medium (m.scripts ++ one ∷ []) m.server.durable) (λ laptop k it.
+    let is = state_more m.scripts one k.node.durable it.client.named.is in
+    let may_be = if_more m.scripts one k.node.doubt it.client.named.may_be in
+    let client : ClientStands medium (m.scripts ++ one ∷ []) laptop k = search rules in
+    record { client = client; follows = it.follows })
+    old.clients.items m.clients here.clients_ in
+    let all : m.scripts ++ one ∷ [] ≡ exchange.scripts_of scripts.items = rw (here.scripts, adds, map-append) in
+    let apart = apart_more m.scripts one here.apart (ap (script_named name) here.scripts ∙ undeclared old.scripts.items name none) in
+    (sym (append-nil x), search rules))

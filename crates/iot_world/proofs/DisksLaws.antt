@@ -2,12 +2,12 @@
 use Rattle.{std.proofs.Common.OnOk, iot_machine.proofs.FollowsLaws.all_set}
 use Rattle.iot_world.proofs.Common.{AllByRecursion, Bool, Call, Each, Err, Global, HasPlaces, IfErr}
 use Rattle.iot_world.proofs.Common.{IsWorldOfSome, KeepsBeside, KeepsCommits, KeepsDisk, KeepsDisks, KeepsNode, Laptop, LaptopHasDisk}
-use Rattle.iot_world.proofs.Common.{LeavesDisks, List, Machine, MakesStep, Medium, None, Ok, Option, Result, SameArms, ServerNode, Some}
-use Rattle.iot_world.proofs.Common.{StandsFor, Vec, World, ap, arith, commits_same, disk_in, disk_of, disks_of, false, inl, is_promoted}
-use Rattle.iot_world.proofs.Common.{is_some, length, length-append, length-set, on_both, refl, same_Some, slice_get, slice_index_or}
+use Rattle.iot_world.proofs.Common.{LeavesDisks, List, Machine, MakesStep, Medium, None, Ok, Option, Result, SameArms, ServerNode}
+use Rattle.iot_world.proofs.Common.{Some, Vec, World, ap, arith, commits_same, disk_in, disk_of, disks_of, false, inl, is_promoted, is_some}
+use Rattle.iot_world.proofs.Common.{length, length-append, length-set, on_both, placed_in, refl, same_Some, slice_get, slice_index_or}
 use Rattle.iot_world.proofs.Common.{slice_set, suc, sym, true, with_clients, with_first, zero, ℕ, [], ◌++◌, ◌+◌, ◌<◌, ◌∙◌, ◌∷◌, ◌≡◌, ◌≤◌}
 use Rattle.iot_world.proofs.ListLaws.{all_split, looked_up}
-use Rattle.iot_world.proofs.PlacesLaws.{ServerFollows, beside_places, kept_server, places_list, promoted_is, same_server, server_placed}
+use Rattle.iot_world.proofs.PlacesLaws.{ServerFollows, beside_places, kept_server, promoted_is, same_server, server_list}
 use Rattle.iot_world.specs.{Disks.HasEnds, Disks.IsUnarmed, World.UnlessArmed}
 
 -- what is so of any answer is so unless a disk was armed
@@ -65,7 +65,7 @@ module _ {D : Type 0} (medium : Medium D) where
     first = it.first;
     last = it.last;
     others = with_clients world.clients.items world.spare.items;
-    is = places_list medium world.server it (with_clients world.clients.items world.spare.items);
+    is = server_list medium world.server _ _ _ it.has (with_clients world.clients.items world.spare.items);
   }
 
   -- so it is of a world with these, and with the disks between them
@@ -85,10 +85,6 @@ module _ {D : Type 0} (medium : Medium D) where
     stays = keeps.stays;
   }
 
-  -- the server of a machine's world has its disks in their places
-  pub stands_placed : (world : World D) (m : Machine) → StandsFor medium world m → HasPlaces world.server
-  stands_placed world m here = beside_places medium _ _ _ here.beside
-
   module _ (old : World D) (some : IsWorldOfSome medium old) where
     -- the server was asked something that promotes nothing
     pub server_keeps : {turns : Bool} (server : ServerNode D) → KeepsBeside medium old.server server
@@ -98,7 +94,7 @@ module _ {D : Type 0} (medium : Medium D) where
         let beside = some.stands.stands.beside in
         let still = kept _ _ beside in
         record {
-          follows = kept_server medium old.server server _ _ (server_placed medium old.server _ _ beside) still keeps;
+          follows = kept_server medium old.server server _ _ (placed_in medium _ _ _ beside.is) still keeps;
           commits = commits;
           stays = λ no. promoted_is medium _ _ _ still ∙ sym (promoted_is medium _ _ _ beside);
         }

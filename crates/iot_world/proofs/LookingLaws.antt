@@ -45,29 +45,27 @@ module _ {D : Type 0} (medium : Medium D) where
       let m : Machine = world_of.machine in
       rw (same, are, (lent m world_of.stands.stands).labels) (listed_by m m.server.durable world_of.stands.sound.listed.is)
 
-  module _ (world : World D) (x y : List ℕ) where
-    pub logs_up : (names : List (List ℕ)) (labels : List Label) (it : Server D) → names ≡ client_names world
-        → labels ≡ (state_of it).labels → ((m : Machine) → StandsFor medium world m → IsServerOf it m.server m.requests)
-        → y ≡ x ++ log_text names labels → MakesStep medium Logs world world x y tt
-    logs_up names labels it same are lent wrote =
-        bind {a = true} (asks (λ m here. sym (lent m here).alive))
-        (says (λ m here. rw (wrote, same, are, names_are world m here, (lent m here).labels)))
+  pub logs_up : (world : World D) (x y : List ℕ) (names : List (List ℕ)) (labels : List Label) (it : Server D)
+      → names ≡ client_names world → labels ≡ (state_of it).labels
+      → ((m : Machine) → StandsFor medium world m → IsServerOf it m.server m.requests)
+      → y ≡ x ++ log_text names labels → MakesStep medium Logs world world x y tt
+  logs_up world x y names labels it same are lent wrote =
+      bind {a = true} (asks (λ m here. sym (lent m here).alive))
+      (says (λ m here. rw (wrote, same, are, names_are world m here, (lent m here).labels)))
 
--- ---- what a client holds, as JSON
+  -- ---- what a client holds, as JSON
 
-module _ {D : Type 0} (medium : Medium D) where
-  module _ (laptop : Laptop D) (old new : Json) (names : named new ≡ named old ++ laptop.name ∷ []) where
-    pub tells_live : (items : List Item) (t : Nodes) → is_alive laptop ≡ true → items ≡ (state_in laptop).items
-        → IsView medium t laptop
-        → shown new ≡ shown old ++ live_data laptop.name items t ∷ [] → Tells medium laptop old new
-    tells_live items t up same sees told = λ scripts m here.
-        let there = awake_stands medium scripts laptop m up here in
-        let queue = queue_are (state_in laptop).items (state_in laptop).held m.node.durable there.state.held there.state.items in
-        let is : live_data laptop.name items t ≡ client_data m = rw (there.alive, same, queue, there.name, sees scripts m there) in
-        record {
-          clients = told ∙ ap (λ (d : Data). shown old ++ d ∷ []) is;
-          names = names ∙ ap (λ (n : List ℕ). named old ++ n ∷ []) there.name;
-        }
+  pub tells_live : (laptop : Laptop D) (old new : Json) → named new ≡ named old ++ laptop.name ∷ [] → (items : List Item) (t : Nodes)
+      → is_alive laptop ≡ true → items ≡ (state_in laptop).items → IsView medium t laptop
+      → shown new ≡ shown old ++ live_data laptop.name items t ∷ [] → Tells medium laptop old new
+  tells_live laptop old new names items t up same sees told = λ scripts m here.
+      let there = awake_stands medium scripts laptop m up here in
+      let queue = queue_are (state_in laptop).items (state_in laptop).held m.node.durable there.state.held there.state.items in
+      let is : live_data laptop.name items t ≡ client_data m = rw (there.alive, same, queue, there.name, sees scripts m there) in
+      record {
+        clients = told ∙ ap (λ (d : Data). shown old ++ d ∷ []) is;
+        names = names ∙ ap (λ (n : List ℕ). named old ++ n ∷ []) there.name;
+      }
 
   -- ---- all clients
 
@@ -75,17 +73,17 @@ module _ {D : Type 0} (medium : Medium D) where
   abbrev pub TellsFirst : World D → (n : ℕ) → Json → Type 0
   TellsFirst world n json = (m : Machine) → StandsFor medium world m → HasTold (take n m.clients) json
 
-  module _ (world : World D) (n : ℕ) (laptop : Laptop D) (get : slice_get world.clients.items n ≡ Some laptop) where
-    -- one more
-    pub tells_more : (old new : Json) → TellsFirst world n old → Tells medium laptop old new → TellsFirst world (n + 1) new
-    tells_more old new so_far one = λ m here.
-        let front = so_far m here in
-        let added = one m.scripts (client_in m n) (client_here medium world m here n laptop get).client in
-        let within = inside_here medium world m here n laptop get in
-        record {
-          clients = rw (added.clients, front.clients) (sym (map_more client_data m.clients n no_client within));
-          names = rw (added.names, front.names) (sym (map_more (λ (client : Client). client.name) m.clients n no_client within));
-        }
+  -- one more
+  pub tells_more : (world : World D) (n : ℕ) (laptop : Laptop D) → slice_get world.clients.items n ≡ Some laptop → (old new : Json)
+      → TellsFirst world n old → Tells medium laptop old new → TellsFirst world (n + 1) new
+  tells_more world n laptop get old new so_far one = λ m here.
+      let front = so_far m here in
+      let added = one m.scripts (client_in m n) (client_here medium world m here n laptop get).client in
+      let within = inside_here medium world m here n laptop get in
+      record {
+        clients = rw (added.clients, front.clients) (sym (map_more client_data m.clients n no_client within));
+        names = rw (added.names, front.names) (sym (map_more (λ (client : Client). client.name) m.clients n no_client within));
+      }
 
   -- all of them
   pub tells_all : (world : World D) (n : ℕ) (json : Json) → length world.clients.items ≤ n → TellsFirst world n json → (m : Machine)
@@ -93,15 +91,14 @@ module _ {D : Type 0} (medium : Medium D) where
   tells_all world n json all so_far m here =
       rw (take_all n m.clients (omega (arith, all, same_length medium world m here))) at (so_far m here)
 
--- ---- the view of a client
+  -- ---- the view of a client
 
-module _ {D : Type 0} (medium : Medium D) (laptop : Laptop D) (x y : List ℕ) where
   -- what its node says leaves it
-  pub shown_by : (on : Bool) (said : List ℕ) → y ≡ x ++ said → (scripts : List Declared)
+  pub shown_by : (laptop : Laptop D) (x y : List ℕ) (on : Bool) (said : List ℕ) → y ≡ x ++ said → (scripts : List Declared)
       → ((m : Client) → ClientStands medium scripts laptop m → (on ≡ m.node.alive)
       × either (Says (λ node. tree_text (view node.durable))) (Says (λ _. line (codes "down"))) on m.node said tt m.node)
       → Refines (ClientStands medium scripts) (node_part Show) laptop laptop x y tt
-  shown_by on said wrote scripts each = record {
+  shown_by laptop x y on said wrote scripts each = record {
     step = λ m here.
         let it = each m here in
         let step : Shows (λ state. tree_text (view state)) m.node said tt m.node =
@@ -109,14 +106,13 @@ module _ {D : Type 0} (medium : Medium D) (laptop : Laptop D) (x y : List ℕ) w
         (said, m, wrote, record { inner = m.node; step = step; is = refl }, here);
   }
 
--- ---- the clients that a world lends
+  -- ---- the clients that a world lends
 
--- the client that is lent is the laptop's
-lent_up : {D : Type 0} (post : Post (Seated D) D) (it : LiveClient D) → Some it ≡ lent_by post → post ≡ Up (record { client = it })
-lent_up (Up seated) it is = ap (λ (one : LiveClient _). Up (record { client = one })) (same_Some seated.client it (sym is))
-lent_up post it is = absurd cc
+  -- the client that is lent is the laptop's
+  lent_up : (post : Post (Seated D) D) (it : LiveClient D) → Some it ≡ lent_by post → post ≡ Up (record { client = it })
+  lent_up (Up seated) it is = ap (λ (one : LiveClient D). Up (record { client = one })) (same_Some seated.client it (sym is))
+  lent_up post it is = absurd cc
 
-module _ {D : Type 0} (medium : Medium D) where
   -- the client at a place is the machine's there
   module _ (world : World D) (place : ℕ) (laptop : Laptop D) (get : slice_get world.clients.items place ≡ Some laptop) where
     pub lends_any : (o : Option (LiveClient D)) → o ≡ lent_by laptop.post → (m : Machine) → StandsFor medium world m

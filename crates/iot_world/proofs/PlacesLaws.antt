@@ -1,10 +1,10 @@
 -- The first disk and the last: lists that have both, and the places of the server's two.
 use Rattle.std.{proofs.Math.Nat.add_comm, proofs.lemmas.List.same_from_push, specs.Option.option_map}
-use Rattle.iot_server_node.{proofs.BackupLaws.ArePlaced, proofs.BackupLaws.placed_in, specs.Disks.sides_of}
-use Rattle.iot_server_node.specs.{Disks.turned, Keepers.disks_in, Servers.TurnsToBackup, Servers.given_up_in, Servers.turned_post}
-use Rattle.iot_world.proofs.Common.{Arms, Bool, Disks, Down}
-use Rattle.iot_world.proofs.Common.{HasPlaces, IsBeside, KeepsDisk, List, Medium, Option, Post, ServerKeeper, ServerNode, Some, ap, arith}
-use Rattle.iot_world.proofs.Common.{disk_of, drop, false, inl, inr, is_promoted, is_up, length, length-append, on_both, other_of, placed}
+use Rattle.iot_server_node.{proofs.BackupLaws.ArePlaced, specs.Disks.sides_of, specs.Disks.turned, specs.Keepers.disks_in}
+use Rattle.iot_server_node.specs.Servers.{TurnsToBackup, given_up_in, turned_post}
+use Rattle.iot_world.proofs.Common.{Arms, Bool, Disks, Down, HasPlaces}
+use Rattle.iot_world.proofs.Common.{IsBeside, KeepsDisk, List, Medium, Option, Post, ServerKeeper, ServerNode, Some, ap, arith, disk_of}
+use Rattle.iot_world.proofs.Common.{drop, false, inl, inr, is_promoted, is_up, length, length-append, on_both, other_of, placed, placed_in}
 use Rattle.iot_world.proofs.Common.{refl, same_Some, slice_index_or, subst, sym, true, with_ends, with_server, [], ◌+◌, ◌∙◌, ◌∷◌, ◌≡◌, ◌⊎◌}
 use Rattle.iot_world.specs.Disks.{AreTwoUnarmed, SameOrRose}
 use Rattle.iot_node.specs.Posts as posts
@@ -25,21 +25,13 @@ ends_length first last xs = omega (arith, length-append xs (last ∷ []))
 module _ {D : Type 0} (medium : Medium D) where
   -- ---- the places of the server's two disks
 
-  -- it has these in their places, and the one beside its own was armed so
-  abbrev pub ServerPlaced : (server : ServerNode D) (promoted : Bool) (arms : Arms) → Type 0
-  ServerPlaced server promoted arms = ArePlaced medium (disk_of server) promoted arms
-
-  abbrev pub server_placed : (server : ServerNode D) (promoted : Bool) (arms : Arms) → IsBeside medium server promoted arms
-      → ServerPlaced server promoted arms
-  server_placed server promoted arms it = placed_in medium (disk_of server) promoted arms it.is
-
-  -- so its disks are in their places
-  abbrev pub has_places : (server : ServerNode D) (promoted : Bool) (arms : Arms) → ServerPlaced server promoted arms → HasPlaces server
+  abbrev pub has_places : (server : ServerNode D) (promoted : Bool) (arms : Arms) → ArePlaced medium (disk_of server) promoted arms
+      → HasPlaces server
   has_places server promoted arms it = record { promoted = promoted; first = it.first; last = it.last; has = it.has }
 
   abbrev pub beside_places : (server : ServerNode D) (promoted : Bool) (arms : Arms) → IsBeside medium server promoted arms
       → HasPlaces server
-  beside_places server promoted arms it = has_places server promoted arms (server_placed server promoted arms it)
+  beside_places server promoted arms it = has_places server promoted arms (placed_in medium _ _ _ it.is)
 
   promoted_by : (promoted : Bool) (first last : D) → given_up_in (Some (placed promoted first last)) ≡ promoted
   promoted_by false first last = refl
@@ -63,10 +55,6 @@ module _ {D : Type 0} (medium : Medium D) where
       → (xs : List D) → with_server (disk_of server) xs ≡ with_ends first last xs
   server_list server promoted first last has xs = ap (λ (o : Option (Disks D)). with_server o xs) has ∙ list_placed promoted first last xs
 
-  pub places_list : (server : ServerNode D) (it : HasPlaces server) (xs : List D)
-      → with_server (disk_of server) xs ≡ with_ends it.first it.last xs
-  places_list server it = server_list server it.promoted it.first it.last it.has
-
   -- ---- from one call to the next
 
   -- the server's two disks before and after calls in which neither was armed
@@ -75,7 +63,7 @@ module _ {D : Type 0} (medium : Medium D) where
     pub now : HasPlaces new
     pub unarmed : AreTwoUnarmed medium was.first was.last now.first now.last
 
-  two_unarmed : (promoted : Bool) (first last new_first new_last : D)
+  pub two_unarmed : (promoted : Bool) (first last new_first new_last : D)
       → medium.arms (placed promoted new_first new_last).disk ≡ medium.arms (placed promoted first last).disk
       → medium.arms (other_of promoted new_first new_last) ≡ medium.arms (other_of promoted first last)
       → SameOrRose ((on_both medium).faults (placed promoted first last)) ((on_both medium).faults (placed promoted new_first new_last))
@@ -88,23 +76,18 @@ module _ {D : Type 0} (medium : Medium D) where
   }
 
   -- those that a node had, kept by a call
-  pub pairs_follow : (old new : ServerNode D) (promoted : Bool) (arms : Arms) (had : ServerPlaced old promoted arms)
-      (has : ServerPlaced new promoted arms) → KeepsDisk (on_both medium) (disk_of old) (disk_of new)
-      → AreTwoUnarmed medium had.first had.last has.first has.last
-  pairs_follow old new promoted arms had has keeps =
-      let was : keeps.was ≡ placed promoted had.first had.last = same_Some _ _ (sym keeps.old_has ∙ had.has) in
-      let now : keeps.now ≡ placed promoted has.first has.last = same_Some _ _ (sym keeps.new_has ∙ has.has) in
-      two_unarmed promoted had.first had.last has.first has.last (rw (was, now) at keeps.arms) (has.beside ∙ sym had.beside)
-      (rw (was, now) at keeps.faults)
-
-  abbrev pub kept_server : (old new : ServerNode D) (promoted : Bool) (arms : Arms) → ServerPlaced old promoted arms
+  abbrev pub kept_server : (old new : ServerNode D) (promoted : Bool) (arms : Arms) → ArePlaced medium (disk_of old) promoted arms
       → IsBeside medium new promoted arms → KeepsDisk (on_both medium) (disk_of old) (disk_of new) → ServerFollows old new
   kept_server old new promoted arms had beside keeps =
-      let has = server_placed new promoted arms beside in
+      let has = placed_in medium (disk_of new) promoted arms beside.is in
+      let was : keeps.was ≡ placed promoted had.first had.last = same_Some _ _ (sym keeps.old_has ∙ had.has) in
+      let now : keeps.now ≡ placed promoted has.first has.last = same_Some _ _ (sym keeps.new_has ∙ has.has) in
       record {
         was = has_places old promoted arms had;
         now = has_places new promoted arms has;
-        unarmed = pairs_follow old new promoted arms had has keeps;
+        unarmed =
+            two_unarmed promoted had.first had.last has.first has.last (rw (was, now) at keeps.arms) (has.beside ∙ sym had.beside)
+            (rw (was, now) at keeps.faults);
       }
 
   -- nothing was done to it
@@ -123,7 +106,7 @@ module _ {D : Type 0} (medium : Medium D) where
   turned_server : (old new : ServerNode D) (arms : Arms) → IsBeside medium old false arms → is_up old ≡ false
       → TurnsToBackup medium old new → ServerFollows old new
   turned_server old new arms here down turns =
-      let one = server_placed old false arms here in
+      let one = placed_in medium (disk_of old) false arms here.is in
       let had = turned_has old.post one.first one.last down one.has in
       let follows = kept_server (record { post = turned_post old.post }) new true (medium.arms one.first)
       (record { first = one.first; last = one.last; has = had; beside = refl })

@@ -27,8 +27,7 @@ impl<D: Disk> World<D> {
     ) -> Result<(), NoMemory>
         requires stands { IsWorldOfSome D.medium self.old }
         requires few { client_count self.old < 8 }
-        ensures step { OnOk result
-            (MakesStep D.medium (Declares name.now) self.old self.new out.old out.new tt) }
+        ensures step { OnOk result (MakesStep D.medium (Declares name.now) self.old self.new out.old out.new tt) }
         ensures declared { OnOk result ((later : List Event) → DeclaredOn (Client name.now ∷ later) self.old → DeclaredOn later self.new) }
         ensures disks { LeavesDisks D.medium false 1 false result self.old self.new }
     {
@@ -53,8 +52,7 @@ impl<D: Disk> World<D> {
         requires stands { IsWorldOfSome D.medium self.old }
         requires inside { client < client_count self.old }
         requires may { MayBefall what.now (length self.old.scripts.items) }
-        ensures step { OnOk result
-            (MakesStep D.medium (event_part (At client what.now)) self.old self.new out.old out.new tt) }
+        ensures step { OnOk result (MakesStep D.medium (event_part (At client what.now)) self.old self.new out.old out.new tt) }
         ensures decided { OnOk result (DecidesIn D.medium (At client what.now) self.old self.new out.old out.new) }
         ensures declared { (later : List Event) → DeclaredOn (At client what.now ∷ later) self.old → DeclaredOn later self.new }
         ensures disks { LeavesDisks D.medium (stops_client what.now) 0 false result self.old self.new }

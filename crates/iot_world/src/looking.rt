@@ -53,8 +53,7 @@ impl<D: Disk> World<D> {
     /// its tree.
     pub fn json(&self, alloc: Global) -> Result<Text, NoMemory>
         requires { IsWorldOfSome D.medium self.now }
-        ensures { IfOk result
-            (λ text. (m : Machine) → StandsFor D.medium self.now m → text ≡ json_text m) }
+        ensures { IfOk result (λ text. (m : Machine) → StandsFor D.medium self.now m → text ≡ json_text m) }
     {
         let json = self.told(alloc)?;
         match self.server() {
@@ -67,8 +66,7 @@ impl<D: Disk> World<D> {
     #[tactic(auto, using(crate::proofs::WorldsLaws::some_stands))]
     fn told(&self, alloc: Global) -> Result<Json, NoMemory>
         requires { IsWorldOfSome D.medium self.now }
-        ensures { IfOk result
-            (λ json. (m : Machine) → StandsFor D.medium self.now m → HasTold m.clients json) }
+        ensures { IfOk result (λ json. (m : Machine) → StandsFor D.medium self.now m → HasTold m.clients json) }
     {
         let mut json = Json::new(alloc);
         for laptop in &self.clients {

@@ -85,8 +85,7 @@ impl<D: Disk> World<D> {
         // Each machine of which this was the world does this event, with the text that was added, and this is its world then: the
         // nodes that are lent are the machine's, and so is what its disks may hold after a crash and what they count; and what is in
         // its list goes together with the queues. A node may stop in it, but only if its disk failed.
-        ensures step { OnOk result
-            (EventSteps D.medium event.now self.old self.new out.old out.new) }
+        ensures step { OnOk result (EventSteps D.medium event.now self.old self.new out.old out.new) }
         ensures stands { OnOk result (IsWorldOfSome D.medium self.new) }
 
         // If all images of a disk have the record that is in doubt, or none has it, this decides whether it is kept; and so does the
@@ -120,8 +119,7 @@ impl<D: Disk> World<D> {
     /// one, the last of them. Does not allocate.
     pub fn server(&self) -> Option<&Server<D>>
         // Its tree, its labels and its count of requests are those of each machine for which the world stands.
-        ensures lent { (m : Machine) → StandsFor D.medium self.now m
-            → LendsServer (option_copied result) m }
+        ensures lent { (m : Machine) → StandsFor D.medium self.now m → LendsServer (option_copied result) m }
         ensures disk { IfSome (option_copied result) (λ it. servers.HasDisks it (disk_of self.now.server)) }
     {
         self.server.lent()
@@ -143,8 +141,7 @@ impl<D: Disk> World<D> {
     pub fn client(&self, place: u64) -> Option<&Client<D>>
         // Its tree, its view, its queue and its running transactions are those of each machine for which the world stands. It can be
         // looked at: it meets what `view`, `running`, `at_end` and `submission` of a client ask for.
-        ensures lent { (m : Machine) → StandsFor D.medium self.now m
-            → LendsClient D.medium (option_copied result) place m }
+        ensures lent { (m : Machine) → StandsFor D.medium self.now m → LendsClient D.medium (option_copied result) place m }
         ensures ready { IsWorldOfSome D.medium self.now → IfSome (option_copied result) (λ it. IsReady D.medium place it) }
         ensures disk { IfSome (option_copied result) (λ it. ClientIs (λ laptop. disk_in laptop ≡ Some (client_disk it)) place self.now) }
     {
@@ -152,7 +149,6 @@ impl<D: Disk> World<D> {
     }
 
     /// Does one event, and says what it does. One that arms a disk says so before that; another one is to have a text of its own.
-    #[tactic(auto, using(crate::proofs::DisksLaws::stands_placed))]
     fn act(&mut self, alloc: Global, event: &Event, out: &mut Text) -> Result<(), NoMemory>
         requires allowed { IsAllowed event.now (client_count self.old) (script_names self.old) }
         requires stands { IsWorldOfSome D.medium self.old }

@@ -1,6 +1,6 @@
 use Rattle.iot_world.proofs.Common.{append-nil, commits_same, on_ok_weaker, refl, rules, says, sym}
-use Rattle.iot_world.proofs.{DecidingLaws.decides_promoted, DeclaringLaws.declares_script, DisksLaws.armed_leaves}
-use Rattle.iot_world.proofs.{DisksLaws.nothing_leaves, DisksLaws.server_keeps, DisksLaws.server_leaves, PlacesLaws.promoted_follows}
+use Rattle.iot_world.proofs.{DecidingLaws.decides_promoted, DeclaringLaws.declares_script, DisksLaws.armed_leaves, DisksLaws.nothing_leaves}
+use Rattle.iot_world.proofs.{DisksLaws.server_keeps, DisksLaws.server_leaves, PlacesLaws.beside_places, PlacesLaws.promoted_follows}
 use Rattle.iot_world.proofs.WorldsLaws.{arms_backup, at_server, both_ok, promotes, restarts}
 use Rattle.iot_event.specs.declared.event.Event.TheVariants as events
 use Rattle.iot_event.specs.declared.event.NodeEvent.TheVariants as nodes
@@ -29,26 +29,22 @@ pub returns-in-Log-clause-disks : goal.returns-in-Log-clause-disks
 returns-in-Log-clause-disks g c = nothing_leaves g.D.Disk.medium _ _ _ c.requires.stands refl refl refl
 
 pub returns-in-Show-clause-step : goal.returns-in-Show-clause-step
-returns-in-Show-clause-step g c =
-    rw (c.in-Server.is, c.in-Show.is)
+returns-in-Show-clause-step g c = rw (c.in-Server.is, c.in-Show.is)
     (on_ok_weaker _ (at_server _ _ _ (λ promoted arms had. had) (events.Server nodes.Show) _ _ refl) c.show.ensures)
 
 pub returns-in-Show-clause-disks : goal.returns-in-Show-clause-disks
 returns-in-Show-clause-disks g c = nothing_leaves g.D.Disk.medium _ _ _ c.requires.stands refl refl refl
 
 pub returns-in-Stop-clause-step : goal.returns-in-Stop-clause-step
-returns-in-Stop-clause-step g c =
-    rw (c.in-Server.is, c.in-Stop.is)
+returns-in-Stop-clause-step g c = rw (c.in-Server.is, c.in-Stop.is)
     (on_ok_weaker _ (at_server _ _ _ c.arm.ensures.beside (events.Server (nodes.Stop _ _)) _ _ refl) c.arm.ensures.step)
 
 pub returns-in-Stop-clause-disks : goal.returns-in-Stop-clause-disks
-returns-in-Stop-clause-disks g c =
-    rw (c.in-Server.is, c.in-Stop.is)
+returns-in-Stop-clause-disks g c = rw (c.in-Server.is, c.in-Stop.is)
     (armed_leaves _ _ _ c.arm.result _ _ _ _ c.requires.stands (returns-in-Stop-clause-step g c) c.arm.ensures.same)
 
 pub returns-in-Crash-clause-step : goal.returns-in-Crash-clause-step
-returns-in-Crash-clause-step g c =
-    rw (c.in-Server.is, c.in-Crash.is)
+returns-in-Crash-clause-step g c = rw (c.in-Server.is, c.in-Crash.is)
     (on_ok_weaker _ (at_server _ _ _ c.crash.ensures.beside (events.Server nodes.Crash) _ _ refl) c.crash.ensures.step)
 
 pub returns-in-Crash-clause-disks : goal.returns-in-Crash-clause-disks
@@ -83,9 +79,11 @@ returns-in-Promote-clause-disks g c =
       stays = λ no. absurd cc;
     }))
 
+pub arm_backup-requires : goal.arm_backup-requires
+arm_backup-requires g c = beside_places g.D.Disk.medium _ _ _ c.requires.stands.stands.stands.beside
+
 pub returns-in-StopBackup-clause-step : goal.returns-in-StopBackup-clause-step
-returns-in-StopBackup-clause-step g c =
-    rw c.in-StopBackup.is
+returns-in-StopBackup-clause-step g c = rw c.in-StopBackup.is
     (both_ok c.arm_backup.result c.arm_backup.ensures.said c.arm_backup.ensures.step
     (arms_backup g.D.Disk.medium _ _ c.in-StopBackup.calls c.in-StopBackup.pick _ _))
 

@@ -1,15 +1,6 @@
-use Rattle.iot_world.proofs.Common.{arith, refl, []}
-use Rattle.iot_world.proofs.DeclaringLaws.{each_fresh, gives_back, opens, opens_has, opens_unarmed}
+use Rattle.iot_world.proofs.Common.{refl, []}
+use Rattle.iot_world.proofs.DeclaringLaws.{gives_back, opens, opens_has, opens_unarmed}
 use Rattle.iot_world.proofs.world.World.new.Goals as goal
-
-pub take_ends-first-requires : goal.take_ends-first-requires
-take_ends-first-requires g c = omega (arith, c.requires.ten)
-
-pub unopened-requires-clause-first : goal.unopened-requires-clause-first
-unopened-requires-clause-first g c = (each_fresh g.D.Disk.medium _ _ _ _ c.take_ends-first.ensures.items c.requires).0
-
-pub unopened-requires-clause-backup : goal.unopened-requires-clause-backup
-unopened-requires-clause-backup g c = (each_fresh g.D.Disk.medium _ _ _ _ c.take_ends-first.ensures.items c.requires).2
 
 pub returns-in-Ok-clause-opens : goal.returns-in-Ok-clause-opens
 returns-in-Ok-clause-opens g c =
@@ -37,8 +28,7 @@ into_disks-requires g c =
     (c.unopened.ensures.stands [] 0) c.unopened.ensures.beside c.open.ensures.beside c.take_ends-first.ensures.room
 
 pub returns-in-Err-clause-refused : goal.returns-in-Err-clause-refused
-returns-in-Err-clause-refused g c =
-    rw c.into_disks.ensures
+returns-in-Err-clause-refused g c = rw c.into_disks.ensures
     (gives_back g.D.Disk.medium _ _ _ _ c.take_ends-first.ensures.items c.requires _ _ c.new.result c.new-2.result
     c.take_ends-first.new.disks c.new.ensures.items c.new-2.ensures.items refl (c.unopened.ensures.stands [] 0)
     c.unopened.ensures.beside c.open.ensures.beside c.unopened.ensures.disk c.open.ensures.disk
