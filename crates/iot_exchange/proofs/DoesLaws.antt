@@ -2,10 +2,9 @@
 -- one of the machine, also if the client is down.
 use Rattle.std.proofs.Common.{is_some, length-append, suc, ◌&&◌, ◌*◌, ◌≤◌}
 use Rattle.iot_disk.specs.Disk.{Storing}
-use Rattle.iot_exchange.proofs.Common.{Answers, Asks, Bool}
-use Rattle.iot_exchange.proofs.Common.{Both, Call, Client, ClientState, Compared, Declared, Does, DoesFrom, EndsAlone, Err, Follows, Goes}
-use Rattle.iot_exchange.proofs.Common.{Halt, IsAt, IsErrAnd, IsReadyWith, Item, ItemsStand, Keeps, KeepsDisk, KeepsDisks, Laptop, List}
-use Rattle.iot_exchange.proofs.Common.{Medium, NoMemory, Nodes, None, Notes, NotesAlone, Ok, OnConflict, Option, Over, Pair, PairStands}
+use Rattle.iot_exchange.proofs.Common.{Answers, Asks, Bool, Both, Call, Client, ClientState, Compared, Declared, Does, DoesFrom, Err}
+use Rattle.iot_exchange.proofs.Common.{Follows, Goes, Halt, IsAt, IsErrAnd, IsReadyWith, Item, ItemsStand, Keeps, KeepsDisk, KeepsDisks}
+use Rattle.iot_exchange.proofs.Common.{Laptop, List, Medium, NoMemory, Nodes, None, Notes, Ok, OnConflict, Option, Over, Pair, PairStands}
 use Rattle.iot_exchange.proofs.Common.{Repeats, Result, ServerNode, ServerStands, Some, StepFrom, StepsTo, SyncsNext, Tells, Then, Try}
 use Rattle.iot_exchange.proofs.Common.{UnlessNoMemory, UpStands, Yields, after_acts, ap, append-nil, arith, codes, disk_in, false, has_any}
 use Rattle.iot_exchange.proofs.Common.{joined, kept, length, line, not, pends, quiet, refl, runs_is, stamps_in, state_in, subst, sym, true}
@@ -13,9 +12,9 @@ use Rattle.iot_exchange.proofs.Common.{two, unless_over, waits_is, waits_of, yie
 use Rattle.iot_exchange.proofs.StepsLaws.{answers_from, asks_from, behind, refuses_from, says_from, then_from}
 use Rattle.iot_exchange.specs.{Pairs.AnyStands, Pairs.IsStandingWith, Pairs.KeepsServed, Words.SyncsAll}
 use Rattle.iot_judging.proofs.FollowingLaws.{follows_kept}
-use Rattle.iot_laptop.proofs.NodesLaws.{awake, awake_stands, node_is}
-use Rattle.iot_laptop.specs.Alone.{CertifiesAlone, ComparesAlone, StartsAlone, YieldsAlone, YieldsAndNotes, certify_alone, change_by}
-use Rattle.iot_laptop.specs.{Alone.set_class, Alone.yields_by, Laptops.SamePlace, Laptops.StandsAnyhow, Laptops.is_alive}
+use Rattle.iot_laptop.{proofs.NodesLaws.awake, proofs.NodesLaws.awake_stands, proofs.NodesLaws.node_is, specs.Alone.CertifiesAlone}
+use Rattle.iot_laptop.specs.Alone.{ComparesAlone, NotesAlone, StartsAlone, YieldsAlone, YieldsAndNotes, certify_alone, change_by, set_class}
+use Rattle.iot_laptop.specs.{Alone.yields_by, Calls.EndsAlone, Laptops.SamePlace, Laptops.StandsAnyhow, Laptops.is_alive}
 use Rattle.iot_machine.{proofs.StepsLaws.at_each, specs.Calls.Gets, specs.Calls.OrSays, specs.Calls.Whole, specs.Calls.either}
 use Rattle.iot_machine.specs.{Calls.or_text, Clients.begin, Events.IfUp, Events.is_drained, Transactions.Compares, Transactions.Starts}
 use Rattle.{iot_machine.specs.Transactions.unless_stopped, iot_server_node.proofs.BeginningLaws.records_same}
@@ -409,7 +408,7 @@ if_spoken other x z longer (byte ∷ bytes) is = is
 
 -- ---- what a client knows of its pair
 
-module _ {D : Type 0} {medium : Medium D} {scripts : List Declared} {u : Both D} {b : Bool} where
+module _ {D : Type 0} {medium : Medium D} {scripts : List Declared} {u : Both D} (b : Bool) where
   pub up_is : u.laptop.link.up ≡ b → OfEach medium scripts u (λ pair. b ≡ pair.client.link.up)
   up_is is names c pair here = sym is ∙ ap (λ link. link.up) here.client.is.link
 
@@ -422,7 +421,7 @@ module _ {D : Type 0} {medium : Medium D} {scripts : List Declared} {u : Both D}
 
 -- ---- all of them
 
-items_long : (items : List Item) (t : Nodes) (ms : List clients.Item) → ItemsStand items t ms → length items ≡ length ms
+pub items_long : (items : List Item) (t : Nodes) (ms : List clients.Item) → ItemsStand items t ms → length items ≡ length ms
 items_long [] t [] stand = refl
 items_long (item ∷ items) t (m ∷ ms) stand = ap suc (items_long items (after_acts t item.acts) ms stand.1)
 items_long items t ms stand = absurd stand

@@ -1,7 +1,7 @@
 -- An exchange of a client with the server; what a client asks for, and holds if it comes; and what it knows of its transactions.
 use Rattle.std.{proofs.Common.◌⊎◌, specs.Prelude.nat_lt, specs.Prelude.not, specs.declared.alloc.Global.Global}
-use Rattle.iot_exchange.proofs.Common.{Asked, AsksAll, AsksFor}
-use Rattle.iot_exchange.proofs.Common.{Bool, Both, Call, Came, Changes, Client, ClientState, Commit, Declared, Does, Err, Errand, Follows}
+use Rattle.iot_exchange.proofs.Common.{Asked, AsksAll}
+use Rattle.iot_exchange.proofs.Common.{AsksFor, Bool, Both, Call, Came, Client, ClientState, Commit, Declared, Does, Err, Errand, Follows}
 use Rattle.iot_exchange.proofs.Common.{Grows, Halt, IsAt, IsOneMessage, IsReply, IsTree, Item, Judgment, KeepsDisks, Laptop, LaptopStands}
 use Rattle.iot_exchange.proofs.Common.{List, Medium, Message, NoMemory, Node, Nodes, None, Notes, Objects, Ok, Option, Over, Pair}
 use Rattle.iot_exchange.proofs.Common.{PairStands, Query, Reclassed, Refresh, Result, ServerNode, ServerStands, Some, SpellsCut, SpellsTree}
@@ -16,9 +16,8 @@ use Rattle.iot_judging.proofs.FollowingLaws.{follows_on}
 use Rattle.iot_laptop.specs.{Calls.IsNoFetch, Calls.TakesReply, Calls.TakesStamps, Laptops.after_passage, Messages.BringsTree}
 use Rattle.iot_link.specs.{Links.passage, declared.passages.Passage.Passage}
 use Rattle.iot_link.specs.declared.passages.Passage.TheVariants.{Away, Both as Reaches, ReplyLost, RequestLost}
-use Rattle.iot_machine.proofs.{StepsLaws.asks, StepsLaws.bind, StepsLaws.gets, WholeLaws.whole_comes}
-use Rattle.iot_machine.specs.{Calls.At, Clients.most_running, Clients.snapshot, Machine.break, Machine.its_server}
-use Rattle.iot_machine.specs.Serving.{Judges, Lends, Submission}
+use Rattle.iot_machine.{proofs.StepsLaws.asks, proofs.StepsLaws.bind, proofs.StepsLaws.gets, proofs.WholeLaws.whole_comes, specs.Calls.At}
+use Rattle.iot_machine.specs.{Clients.most_running, Machine.break, Machine.its_server, Serving.Judges, Serving.Lends, Serving.Submission}
 use Rattle.iot_machine.specs.Transactions.{Brings, Exchange, Handles, Holds, counted, exchange_by, holds, is_full, runs}
 use Rattle.iot_server_node.{proofs.ServersLaws.up_is, specs.Messages.said_of, specs.Servers.HavingAnswered}
 use Rattle.iot_server_node.specs.{Servers.IsHanded, Servers.IsNamedIn, Servers.ServesBy, declared.server.Served.Served}
@@ -100,8 +99,7 @@ module _ {D A : Type 0} {medium : Medium D} {scripts : List Declared} {names : L
       → Serves (ServerStands medium names) Spelled request reply server later x y
       → Exchanges (UpStands medium scripts names c) Spelled (Handles request) reply (two laptop server) (two laptop later) x y
   handles None it = record { is = bind (by_server (answered {A = A} None) it.is) (counts None) }
-  handles (Some reply) it =
-      record { is = (it.is.0, it.is.1, bind (by_server (answered (Some it.is.0)) it.is.2) (counts (Some it.is.0))) }
+  handles (Some reply) it = record { is = (it.is.0, it.is.1, bind (by_server (answered (Some it.is.0)) it.is.2) (counts (Some it.is.0))) }
 
 -- ---- an exchange that gets so far
 
@@ -124,8 +122,7 @@ module _ {D : Type 0} {medium : Medium D} {old new : Laptop D} (server : ServerN
           sym how ∙ is ∙ ap (passage old.link) up ∙ (λ i. passage (here.client.is.link i) (alive i)))) one
 
       -- it was not sent
-      pub away : {x : List ℕ} → p ≡ Away
-          → StepsOn medium scripts names c (Exchange request) (two old server) (two new server) x x None
+      pub away : {x : List ℕ} → p ≡ Away → StepsOn medium scripts names c (Exchange request) (two old server) (two new server) x x None
       away how = exchanged how (gets (λ pair here. (refl, linked how here)))
 
       -- that, or it was lost
@@ -172,15 +169,14 @@ pub no_items : (items : List Item) → waits_of items ≡ false → items ≡ []
 no_items [] is = refl
 no_items (item ∷ items) is = absurd cc
 
-module _ {D : Type 0} {medium : Medium D} {scripts : List Declared} {u : Both D} {b : Bool} where
+module _ {D : Type 0} {medium : Medium D} {scripts : List Declared} {u : Both D} (b : Bool) where
   -- whether a transaction runs
   pub runs_here : has_any (state_in u.laptop).running ≡ b → OfEach medium scripts u (λ pair. b ≡ runs pair)
   runs_here is names c pair here = sym is ∙ runs_is _ _ _ _ here.client.is.state
 
   -- whether as many run as may
   pub full_here : not (nat_lt (length (state_in u.laptop).running) most_running) ≡ b → OfEach medium scripts u (λ pair. b ≡ is_full pair)
-  full_here is names c pair here =
-      sym is ∙ ap (λ (n : ℕ). not (nat_lt n most_running)) (many_is _ _ _ _ here.client.is.state)
+  full_here is names c pair here = sym is ∙ ap (λ (n : ℕ). not (nat_lt n most_running)) (many_is _ _ _ _ here.client.is.state)
 
   -- whether transactions wait
   pub pends_here : waits_of (state_in u.laptop).items ≡ b → OfEach medium scripts u (λ pair. b ≡ pends pair)
@@ -226,8 +222,8 @@ same_tree : {held : Stamps} {bytes : List ℕ} {t u : Nodes} → length bytes < 
     → t ≡ u
 same_tree {held} {bytes} short one other =
     let only : IsOneMessage IsReply reply_spelling bytes = call_one _ _ _ reply_laws bytes short in
-    let same : one.changes ≡ other.changes = let objects = only _ _ one.spelled other.spelled in cc in
-    one.is ∙ ap (λ (changes : Changes). nodes_of (brought held changes)) same ∙ sym other.is
+    let objects = only _ _ one.spelled other.spelled in
+    cc
 
 -- the reply to a client that holds this lends this tree
 pub record Lent {D : Type 0} (medium : Medium D) (held : Stamps) (errand : Errand) (reply : List ℕ) (call : Call Pair (Option Nodes))
@@ -258,8 +254,7 @@ module _ {D : Type 0} {medium : Medium D} {message : Message} {reply : Vec ℕ G
     abbrev replied : (scripts : List Declared) (names : List (List ℕ)) (c : ℕ)
         → IfReplied (SpellsCut (stamps_of u.server) held errand) (Some reply)
         (StepsOn medium scripts names c (Exchange (Lends tree errand)) u v x y)
-    replied scripts names c =
-        (came.asked.is scripts names c (Objects client held (stamps_of u.server) tree errand) (is, refl, tree_is)).is
+    replied scripts names c = (came.asked.is scripts names c (Objects client held (stamps_of u.server) tree errand) (is, refl, tree_is)).is
 
     -- what the reply spells makes a tree of what is held
     spells_tree : {t : Nodes} → SpellsCut (stamps_of u.server) held errand reply.items t → SpellsTree (base_of held errand) reply.items t
@@ -306,8 +301,7 @@ module _ {D : Type 0} {medium : Medium D} {message : Message} {reply : Vec ℕ G
       where
         followed : (inner : Result (Unit {0}) Halt) → TakesStamps (base_of (stamps_in v.laptop) errand) reply.items v.laptop new inner
             → UnlessNoMemory inner (OfEach medium scripts v (λ pair. Follows (stamps_in new) pair.server.durable))
-        followed (Ok done) takes =
-            λ names c pair here. rw (takes _ lent_own.brings.is.spelled) (lent_own.follows scripts names c pair here)
+        followed (Ok done) takes = λ names c pair here. rw (takes _ lent_own.brings.is.spelled) (lent_own.follows scripts names c pair here)
         followed (Err NoMemory) takes = tt
         followed (Err Over) takes = λ names c pair here. rw takes (follows_nothing pair.server.durable)
 
@@ -324,9 +318,5 @@ module _ {D : Type 0} {medium : Medium D} {message : Message} {reply : Vec ℕ G
       lent_whole.brings,
       λ t of.
           let cut = lent_whole.cut in
-          let same : t ≡ nodes_of (stamps_of u.server) =
-          same_tree short of lent_whole.brings.is ∙ cut.cut
-          ∙ (λ i. snapshot (nodes_none i) (wanted.Below []) (nodes_of (stamps_of u.server)))
-          ∙ whole_comes (nodes_of (stamps_of u.server)) cut.tree in
-          subst IsWhole (sym same) cut.whole,
+          rw (same_tree short of lent_whole.brings.is, cut.cut, nodes_none, whole_comes (nodes_of (stamps_of u.server)) cut.tree) cut.whole,
     )

@@ -4,32 +4,32 @@
 use Rattle.std.proofs.{Common.Global, Common.if◌then◌else◌, lemmas.List.nil_from_length, lemmas.Option.slice_get_within}
 use Rattle.std.specs.{FinMap.empty, FinMap.entries, FinMap.len-empty, FinMap.len-entries, List.AllByRecursion}
 use Rattle.{iot_access.specs.Access.access_of, iot_acts.specs.Turns.reads_of, iot_client.specs.Messages.way_of}
-use Rattle.iot_exchange.proofs.Common.{ACT_LIMIT, Asked, AsksAll, AsksFor, Both, Came, Client, Code}
-use Rattle.iot_exchange.proofs.Common.{Declared, Does, DoesFrom, EndsAlone, Err, Halt, HasNamed, IsCodeOf, IsErrAnd, IsReadyWith, IsSome}
-use Rattle.iot_exchange.proofs.Common.{Item, ItemsStand, Judgment, Keeps, KeepsDisks, Laptop, LaptopStands, List, Medium, Message, Nodes}
-use Rattle.iot_exchange.proofs.Common.{None, Notes, NotesAlone, Objects, Ok, OnConflict, Over, Pair, Refresh, Result, ServerNode, Some}
-use Rattle.iot_exchange.proofs.Common.{SpellsTree, SpellsVerdict, Stage, Transaction, Try, UpStands, Vec, after_acts, ap, codes, false}
+use Rattle.iot_exchange.proofs.Common.{Asked, AsksAll, AsksFor, Both, Came, Client, Code, Declared, Does, DoesFrom, Err, Halt, HasNamed}
+use Rattle.iot_exchange.proofs.Common.{IsCodeOf, IsErrAnd, IsReadyWith, IsSome, Item, Judgment, Keeps, KeepsDisks, Laptop, LaptopStands}
+use Rattle.iot_exchange.proofs.Common.{List, Medium, Message, Nodes, None, Notes, Objects, Ok, OnConflict, Over, Pair, Refresh}
+use Rattle.iot_exchange.proofs.Common.{Result, ServerNode, Some, SpellsVerdict, Stage, Try, UpStands, Vec, after_acts, ap, codes, false}
 use Rattle.iot_exchange.proofs.Common.{kept, length, line, name_of, new_client, nothing_held, option_named, refl, same_Some, script_named}
 use Rattle.iot_exchange.proofs.Common.{slice_get, slice_get-get_or, slice_index_or, stamps_of, state_in, subst, sym, synced_by}
 use Rattle.iot_exchange.proofs.Common.{told_synced, told_text, transaction_name, true, two, waits_of, ℕ, [], ◌++◌, ◌<◌, ◌∙◌, ◌∷◌, ◌≡◌}
-use Rattle.iot_exchange.proofs.DoesLaws.{asks_then, by_client, each_from, keeps_more, notes, refuses, still}
+use Rattle.iot_exchange.proofs.DoesLaws.{asks_then, by_client, each_from, items_long, keeps_more, notes, refuses, still}
 use Rattle.iot_exchange.proofs.{ExchangeLaws.asks_whole, ExchangeLaws.lent_whole, ExchangeLaws.whole_errand, FollowingLaws.nodes_none}
 use Rattle.iot_exchange.proofs.StepsLaws.{asks_from, refuses_from, says_from, then_from}
 use Rattle.iot_exchange.specs.{Pairs.MissesAll, Queues.First, Saying.resolver_said, Words.Verdict, declared.queues.Synced.Synced as Sync}
 use Rattle.iot_exec.specs.Files.{files_of}
 use Rattle.iot_kept.specs.Changes.{HeadIs, IsByHand, IsSubmittedIn}
-use Rattle.iot_laptop.specs.Calls.{Changes, HandsIn, IsHeadPlan, Plans, access_in, acts_in, decision, decision_on, head_name, head_reads}
-use Rattle.iot_laptop.specs.{Calls.label_in, Calls.undecided_word, Messages.IsVerdict, declared.needs.Submitted.Submitted}
+use Rattle.iot_laptop.specs.Calls.{HandsIn, IsHeadPlan, Plans, Resolves, TakesVerdict, access_in, acts_in, decision, decision_on, head_name}
+use Rattle.iot_laptop.specs.{Calls.head_reads, Calls.label_in, Calls.undecided_word, Messages.IsVerdict, declared.needs.Submitted.Submitted}
 use Rattle.{iot_laptop.specs.declared.needs.Undecided.Undecided, iot_limits.proofs.SpelledLaws.no_files_are_spelled}
 use Rattle.iot_machine.specs.Clients.{Plan, local_run, plan_by, plan_of, reach, resolution_of}
 use Rattle.iot_machine.specs.{Serving.Conflict, Sound.CanResolve, Sound.IsPlanned, Texts.manual_line, Texts.resolve_line}
 use Rattle.iot_machine.specs.Transactions.{IfManual, Moved, NotesAloud, Stays, Submits, Synced, Syncs, Unanswered}
 use Rattle.iot_machine.specs.Transactions.{if_manual, is_manual, item_name, resolves, submission_of, submits, sync_at, sync_head, told}
+use Rattle.iot_node.specs.declared.lines.Transaction.{Transaction}
 use Rattle.{iot_queue.specs.declared.items.Resolution.Resolution, iot_server_node.specs.Servers.IsSubmission}
-use Rattle.iot_standing.{proofs.StatesLaws.HeadStands, proofs.StatesLaws.head_stands, specs.Kept.ItemStands, specs.Kept.ResolutionStands}
-use Rattle.iot_standing.specs.{Kept.StageStands, Kept.access_by, Kept.access_kept, Scripts.ItemIsNamed, States.head_option}
-use Rattle.{iot_standing.specs.States.head_plan, iot_standing.specs.States.told_change, iot_text.specs.Paths.path_cmp}
-use Rattle.iot_tree.specs.declared.{acts.Act.Act, acts.Read.Read, labels.Way.TheVariants.Certified}
+use Rattle.iot_standing.proofs.StatesLaws.{HeadStands, head_stands}
+use Rattle.iot_standing.specs.Kept.{ItemStands, ResolutionStands, StageStands, access_by, access_kept}
+use Rattle.iot_standing.specs.{Scripts.ItemIsNamed, States.head_option, States.head_plan, States.told_change}
+use Rattle.{iot_text.specs.Paths.path_cmp, iot_tree.specs.declared.acts.Act.Act, iot_tree.specs.declared.acts.Read.Read}
 use Rattle.iot_tree.specs.declared.want.Want.TheVariants as wanted
 use Rattle.iot_tree.specs.declared.labels.OnConflict as labels
 use Rattle.iot_queue.specs.declared.items.Stage.TheVariants as kept_stages
@@ -71,8 +71,7 @@ module _ {D : Type 0} {laptop : Laptop D} {Is : Item → Type 0} {t : Transactio
   pub first_of : (items : List Item) → (state_in laptop).items ≡ items → head_name laptop items ≡ Some t → HeadIs Is items
       → First Is laptop t
   first_of [] same named is = absurd cc
-  first_of (item ∷ rest) same named is =
-      record { item = item; rest = rest; items = same; named = sym (same_Some _ _ named); is = is }
+  first_of (item ∷ rest) same named is = record { item = item; rest = rest; items = same; named = sym (same_Some _ _ named); is = is }
 
 module _ {D : Type 0} (laptop : Laptop D) where
   pub none_waits : (items : List Item) → head_name laptop items ≡ None → items ≡ []
@@ -89,10 +88,11 @@ module _ {D : Type 0} (laptop : Laptop D) where
   decided_on item kept_stages.Manual is = (refl, cc)
   decided_on item stage is = absurd cc
 
-  pub decided : {t : Transaction} (items : List Item) → decision laptop items ≡ Ok t
-      → (head_name laptop items ≡ Some t) × HeadIs IsByHand items
-  decided [] is = absurd cc
-  decided (item ∷ items) is = let on = decided_on item item.stage is in (ap (λ (t : Transaction). Some t) on.1, on.0)
+  pub decided : {t : Transaction} (items : List Item) → (state_in laptop).items ≡ items → decision laptop items ≡ Ok t
+      → First IsByHand laptop t
+  decided [] same is = absurd cc
+  decided (item ∷ rest) same is =
+      let on = decided_on item item.stage is in record { item = item; rest = rest; items = same; named = sym on.1; is = on.0 }
 
   -- or not
   refused_on : {u : Undecided} {s : Stage} {ms : clients.Stage} (item : Item) → SameStage s ms → decision_on laptop item s ≡ Err u
@@ -115,15 +115,11 @@ some_plan held mi option can = absurd can
 
 -- ---- in a pair
 
-none_there : {items : List Item} (held : Nodes) (ms : List clients.Item) → items ≡ [] → ItemsStand items held ms → ms ≡ []
-none_there held [] none stand = refl
-none_there held (m ∷ ms) none stand = absurd (rw none at stand)
-
 module _ {D : Type 0} {medium : Medium D} {scripts : List Declared} {names : List (List ℕ)} {c : ℕ} {old : Both D} {pair : Pair}
     (here : UpStands medium scripts names c old pair) where
   -- none waits
   none_here : (state_in old.laptop).items ≡ [] → [] ≡ (kept pair).items
-  none_here none = sym (none_there _ (kept pair).items none here.client.is.state.items)
+  none_here none = sym (nil_from_length _ (sym (items_long _ _ _ here.client.is.state.items) ∙ ap length none))
 
   module _ {Is : Item → Type 0} {t : Transaction} (first : First Is old.laptop t) where
     -- it is the first of the machine's
@@ -135,9 +131,7 @@ module _ {D : Type 0} {medium : Medium D} {scripts : List Declared} {names : Lis
 
     -- its name in each pair for which the two stand
     pub name_there : {new : Both D} {after : Pair} → UpStands medium scripts names c new after → item_name head.first after ≡ name_of t
-    name_there there =
-        let name = same_Some _ _ (sym there.client.named ∙ here.client.named) ∙ sym here.client.is.name in
-        (λ i. transaction_name (name i) (sym head.stands.number i)) ∙ ap name_of (sym first.named)
+    name_there there = let stands = head.stands in cc
 
     -- something is planned for it if it conflicts
     pub planned_there : first.item.stage ≡ kept_stages.Conflict → (p : Plan) × (plan_of (kept pair).held head.first ≡ Some p)
@@ -175,16 +169,16 @@ module _ {D : Type 0} {medium : Medium D} {scripts : List Declared} {names : Lis
       -- no message gets through
       misses_at : {s : Stage} {ms : clients.Stage} → SameStage s ms → (s ≡ kept_stages.Manual → ⊥)
           → (s ≡ kept_stages.Conflict → (p : Plan) × (plan_of (kept pair).held head.first ≡ Some p))
-          → MissesAll medium scripts names c old new → z ≡ x ++ line (codes "away")
+          → MissesAll medium old new → z ≡ x ++ line (codes "away")
           → DoesFrom medium scripts names c (sync_at head.first ms) pair new x z (Ok Unanswered)
       misses_at conflict not_manual planned misses wrote =
           let p = planned refl in
           resolves_at refl p.1
-          (then_from (misses.none (Objects 0 nothing_held nothing_held new_client.held (Refresh (wanted.Below []))) x) here
+          (then_from (misses.none scripts names c (Objects 0 nothing_held nothing_held new_client.held (Refresh (wanted.Below []))) x) here
           (λ after there. says_from wrote there))
       misses_at manual not_manual planned misses wrote = absurd (not_manual refl)
       misses_at same not_manual planned misses wrote = asks_from refl
-          (then_from (misses.none (Judgment (submission_of head.first pair)) x) here (λ after there. says_from wrote there))
+          (then_from (misses.none scripts names c (Judgment (submission_of head.first pair)) x) here (λ after there. says_from wrote there))
 
 -- ---- without the server
 
@@ -202,10 +196,9 @@ module _ {D : Type 0} {medium : Medium D} {scripts : List Declared} {old : Both 
 
   -- no message gets through
   pub syncs_away : {new : Both D} {t : Transaction} → First (λ item. IsByHand item → ⊥) old.laptop t → KeepsDisks medium old new
-      → ((names : List (List ℕ)) (c : ℕ) → MissesAll medium scripts names c old new) → y ≡ x ++ line (codes "away")
-      → Does medium scripts Syncs old new x y (Ok Unanswered)
+      → MissesAll medium old new → y ≡ x ++ line (codes "away") → Does medium scripts Syncs old new x y (Ok Unanswered)
   syncs_away first keeps misses wrote = each_from keeps (λ names c pair here. asks_from {next = sync_head} (sym (head here first).split)
-      (misses_at here first (stage_there here first) first.is (planned_there here first) (misses names c) wrote))
+      (misses_at here first (stage_there here first) first.is (planned_there here first) misses wrote))
 
 -- ---- decisions by hand
 
@@ -230,9 +223,8 @@ module _ {D : Type 0} {medium : Medium D} {scripts : List Declared} {old : Both 
       → ((after : Pair) → UpStands medium scripts names c new after → item_name mi after ≡ name_of t)
       → (pair : Pair) → UpStands medium scripts names c old pair → DoesFrom medium scripts names c (call mi) pair new x y result)
       → Does medium scripts (IfManual call) old new x y result
-  decides {t = t} is keeps each = each_from keeps (λ names c pair here.
-      let head_is_it = decided old.laptop (state_in old.laptop).items is in
-      let first : First IsByHand old.laptop t = first_of _ refl head_is_it.0 head_is_it.1 in
+  decides is keeps each = each_from keeps (λ names c pair here.
+      let first = decided old.laptop _ refl is in
       let mi = (head here first).first in
       asks_from {next = if_manual call} (sym (head here first).split)
       (rw (manual_stage (stage_there here first) first.is) (each names c mi (λ after there. name_there here first there) pair here)))
@@ -265,11 +257,9 @@ module _ {D : Type 0} {medium : Medium D} {scripts : List Declared} {names : Lis
   named_in : (pair.place < length names) × (item_name mi pair ≡ transaction_name (slice_index_or names pair.place []) mi.number)
   named_in =
       let there : slice_get names pair.place ≡ Some pair.client.name = ap (slice_get names) here.place ∙ here.client.named in
-      let within : pair.place < length names = slice_get_within names pair.place pair.client.name there in (
-        within,
-        ap (λ (n : List ℕ). transaction_name n mi.number)
-            (same_Some pair.client.name _ (sym there ∙ slice_get-get_or names pair.place [] within)),
-      )
+      let within : pair.place < length names = slice_get_within names pair.place pair.client.name there in
+      let named = slice_get-get_or names pair.place [] within in
+      (within, cc)
 
   -- by its stage
   submission_by : {s : Stage} {ms : clients.Stage} → SameStage s ms → IsSubmittedIn s → IsPlanned mi.option ms
@@ -278,17 +268,9 @@ module _ {D : Type 0} {medium : Medium D} {scripts : List Declared} {names : Lis
       transaction (submission_of (record mi { stage = ms }) pair)
   submission_by waiting is planned has =
       let stands = (head here first).stands in
-      let placed = here.place ∙ sym here.client.place in
       record {
         name = name_there here first here ∙ ap name_of first.named;
-        has_label = (λ i. record {
-          client = placed i;
-          tid = sym stands.number i;
-          script = sym stands.name i;
-          budget = sym stands.budget i;
-          way = Certified;
-          kept = no_files i;
-        });
+        has_label = cc no_files;
         base = (state_in old.laptop).held;
         tree = here.client.is.state.tree;
         has_acts = stands.acts;
@@ -298,18 +280,10 @@ module _ {D : Type 0} {medium : Medium D} {scripts : List Declared} {names : Lis
       }
   submission_by (resolved {it = it} done) is planned has =
       let stands = (head here first).stands in
-      let placed = here.place ∙ sym here.client.place in
       let its_way = ways_are mi.option planned ∙ ap way_of (sym stands.option) in
       record {
         name = name_there here first here ∙ ap name_of first.named;
-        has_label = (λ i. record {
-          client = placed i;
-          tid = sym stands.number i;
-          script = sym done.name i;
-          budget = sym done.budget i;
-          way = its_way i;
-          kept = sym done.kept i;
-        });
+        has_label = cc;
         base = _;
         tree = done.tree;
         has_acts = done.acts;
@@ -336,10 +310,7 @@ module _ {D : Type 0} {medium : Medium D} {scripts : List Declared} {names : Lis
         access = access_in (state_in old.laptop) first.item first.item.stage;
         asked = hands.asked;
         transaction = transaction;
-        handed = (λ i. Some (record {
-          printed = record { transaction = hands.transaction i; output = hands.output i };
-          way = hands.way i;
-        }));
+        handed = rw (← hands.transaction, ← hands.output, ← hands.way);
         submission = submission;
       },
       record { client = named_in.0; name = named_in.1 },
@@ -390,8 +361,7 @@ module _ {D : Type 0} {laptop : Laptop D} {t : Transaction} (it : Submitted) (fi
     -- what the reply says of it becomes of it
     pub submits_told : {scripts : List Declared} {new : Laptop D} {z w : List ℕ} {inner : Result
         (Unit {0}) Halt} {result : Result Synced Halt} → KeepsDisks medium (two laptop server) mid → Keeps medium mid.laptop new inner
-        → ((verdict : Verdict) (option : labels.OnConflict) → SpellsVerdict (head_reads (state_in laptop).items) reply.items verdict
-        → head_option (state_in laptop).items ≡ Some option → Changes medium (told_change verdict option) mid.laptop new y z inner)
+        → TakesVerdict medium reply.items mid.laptop new y z inner
         → ((verdict : Verdict) (option : labels.OnConflict) → SpellsVerdict (head_reads (state_in laptop).items) reply.items verdict
         → head_option (state_in laptop).items ≡ Some option
         → Does medium scripts (Notes (told_change verdict option)) mid (two new mid.server) y z inner → Does medium scripts
@@ -406,7 +376,7 @@ module _ {D : Type 0} {laptop : Laptop D} {t : Transaction} (it : Submitted) (fi
         submits_from here first first.is.submitted (then_from e.2 here
         ((told_by e.0 m.option (name_there here first here) (after e.0 (option_named m.option) spells has
         (by_client (notes (told_change e.0 (option_named m.option))) keeps own
-        (does e.0 (option_named m.option) spells has scripts)))).step names c)))
+        (does e.0 (option_named m.option) (rw came.same spells) (rw came.same has) scripts)))).step names c)))
 
 -- ---- plans
 
@@ -430,16 +400,9 @@ module _ {scripts : List Declared} {held : Nodes} {item : Item} {mi : clients.It
     {plan : plans.Plan} where
   planned_by : (option : OnConflict Declared) → HasNamed scripts option → script_named mi.script.name scripts ≡ Some mi.script
       → resolves.plan_for item.script item.budget (option_named option) ≡ Some plan → IsPlannedBy scripts held item mi option plan
-  planned_by options.Reexec has own is = subst (IsPlannedBy scripts held item mi options.Reexec) (same_Some _ plan is) (record {
-    script = mi.script;
-    named = ap (λ (n : List ℕ). script_named n scripts) stands.name ∙ own;
-    is = (λ i. Some (record { said = codes "reexec"; script = mi.script; budget = sym stands.budget i; offered = [] }));
-  })
-  planned_by (options.Resolver script) has own is = rw (← same_Some _ plan is) (record {
-    script = script;
-    named = has;
-    is = (λ i. Some (record { said = script.name; script = script; budget = ACT_LIMIT; offered = files_of (sym stands.tree i) }));
-  })
+  planned_by options.Reexec has own is = record { script = mi.script; named = rw (← same_Some _ plan is, stands.name) own; is = cc }
+  planned_by (options.Resolver script) has own is =
+      rw (← same_Some _ plan is) (record { script = script; named = has; is = rw stands.tree })
   planned_by option has own is = absurd cc
 
 -- the same is planned in each client of the machine for which it stands
@@ -491,10 +454,7 @@ module _ {D : Type 0} {laptop : Laptop D} {t : Transaction} (request : Vec ℕ G
         {reply : Vec ℕ Global} {code : Code} {inner : Result (Unit {0}) Halt} {result : Result Synced Halt}
         → IsCodeOf plan.script scripts code → Came medium (asking request) reply (two laptop server) mid x y
         → KeepsDisks medium (two laptop server) mid → Keeps medium mid.laptop new inner
-        → ((t : Nodes) → SpellsTree nothing_held reply.items t → (scripts : List Declared) (p : Plan) → Plans medium scripts mid.laptop p
-        → p.script.code ≡ code
-        → EndsAlone medium scripts (NotesAlone (reach (clients.Resolved (resolution_of p t)))) mid.laptop new y z inner)
-        → ((p : Plan) (u : Nodes)
+        → Resolves medium reply.items code mid.laptop new y z inner → ((p : Plan) (u : Nodes)
         → Does medium scripts (Notes (reach (clients.Resolved (resolution_of p u)))) mid (two new mid.server) y z inner
         → Does medium scripts
         (NotesAloud (reach (clients.Resolved (resolution_of p u))) (resolve_line (name_of t) (resolver_said plan)) Moved)

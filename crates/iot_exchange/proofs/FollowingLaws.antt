@@ -1,6 +1,6 @@
 -- A held tree goes on following the server's list: after each request, and by what the server sends.
 use Rattle.iot_client.proofs.TrailsLaws.{nothing_trails}
-use Rattle.iot_exchange.proofs.Common.{Changes, Commit, Errand, Follows}
+use Rattle.iot_exchange.proofs.Common.{Commit, Errand, Follows}
 use Rattle.iot_exchange.proofs.Common.{Grows, IsOneMessage, IsReply, IsTree, Judgment, List, Node, Nodes, Objects, Option, Query, Refresh}
 use Rattle.iot_exchange.proofs.Common.{SpellsCut, SpellsTree, Stamps, ap, base_of, brought, call_one, length, nodes_of, nothing_held}
 use Rattle.iot_exchange.proofs.Common.{refl, reply_laws, reply_spelling, request_of, state_of, subst, sym, ℕ, ◌++◌, ◌+◌, ◌<◌, ◌^◌, ◌∙◌, ◌≡◌}
@@ -13,8 +13,9 @@ use Rattle.iot_node.specs.declared.post.Post.{Post, TheVariants.Between, TheVari
 use Rattle.iot_stamp.proofs.AgreementLaws.{agrees_pruned, far_zero_pruned, up_pruned}
 use Rattle.iot_stamp.proofs.{CutsLaws.refresh_cut, CutsLaws.walk_cut, StampsLaws.nodes_with}
 use Rattle.iot_stamp.specs.{Agreement.Agrees, Agreement.IsCutTo, Agreement.IsPositive, Stamps.FarZero, Stamps.pruned}
-use Rattle.iot_tree.{proofs.RowLaws.root_map, proofs.RowLaws.root_rows, specs.Snapshots.has, specs.Tree.root_alone}
-use Rattle.{iot_tree.specs.declared.nodes.Node.TheVariants.FarDir, iot_wire.specs.Meanings.Spells as SpellsReply}
+use Rattle.iot_tree.proofs.RowLaws.{root_map, root_rows}
+use Rattle.iot_tree.specs.{Snapshots.has, Tree.root_alone, declared.changes.Changes.Changes, declared.nodes.Node.TheVariants.FarDir}
+use Rattle.iot_wire.specs.Meanings.{Spells as SpellsReply}
 use Rattle.iot_wire.specs.declared.replies.Reply.TheVariants as replies
 
 -- so it is after each request

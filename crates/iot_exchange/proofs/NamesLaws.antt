@@ -1,11 +1,12 @@
 -- Scripts that are declared, by their names and by their places.
 use Rattle.std.proofs.{Common.cond, Common.option_map, lemmas.List.get_or-map, lemmas.List.length-map}
 use Rattle.iot_event.specs.declared.event.Choice.{Choice}
-use Rattle.iot_exchange.proofs.Common.{Bor, Code, DeclaredScript, HasNamed, IsCodeOf, IsSome, List, None}
+use Rattle.iot_exchange.proofs.Common.{Bor, Code, HasNamed, IsCodeOf, IsSome, List, None}
 use Rattle.iot_exchange.proofs.Common.{Option, Some, ap, bytes_eq, false, find, length, map, option_named, refl, script_at, script_named}
 use Rattle.iot_exchange.proofs.Common.{script_of, scripts_of, slice_get-get_or, slice_index_or, subst, sym, true, ℕ, [], ◌<◌, ◌∙◌, ◌∷◌, ◌≡◌}
-use Rattle.{iot_exchange.specs.Words.IsMeant, iot_exchange.specs.Words.ResolverIsDeclared, iot_machine.specs.Events.chosen}
-use Rattle.{iot_machine.specs.Machine.no_script, iot_standing.specs.Scripts.AreApart, iot_standing.specs.Scripts.IsNamed}
+use Rattle.iot_exchange.specs.{Words.IsMeant, Words.ResolverIsDeclared, declared.declared.DeclaredScript.DeclaredScript}
+use Rattle.iot_machine.specs.{Events.chosen, Machine.no_script}
+use Rattle.iot_standing.specs.Scripts.{AreApart, IsNamed}
 use Rattle.iot_event.specs.declared.event.Choice.TheVariants as choices
 use Rattle.iot_tree.specs.declared.labels.OnConflict as named
 
@@ -44,8 +45,7 @@ script_there ws {place} {w} within is = ap script_of is ∙ sym (get_or-map scri
 pub named_there : (ws : List DeclaredScript) (place : ℕ) → place < length ws → AreApart (scripts_of ws)
     → IsNamed (scripts_of ws) (script_at (scripts_of ws) place)
 named_there ws place within apart =
-    apart place (script_at (scripts_of ws) place)
-    (slice_get-get_or (scripts_of ws) place no_script (subst (λ (n : ℕ). place < n) (sym (length-map ws script_of)) within))
+    apart place (script_at (scripts_of ws) place) (slice_get-get_or (scripts_of ws) place no_script (rw (length-map ws script_of) within))
 
 pub has_named : (ws : List DeclaredScript) (option : Choice ℕ) → ResolverIsDeclared option (length ws) → AreApart (scripts_of ws)
     → HasNamed (scripts_of ws) (chosen (scripts_of ws) option)

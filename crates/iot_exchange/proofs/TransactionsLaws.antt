@@ -1,21 +1,21 @@
 -- Transactions begin, are stepped and end as those of the machine: which one is meant, what it does, having yielded if transactions wait,
 -- and what one sees of it.
 use Rattle.std.proofs.lemmas.{Bool.eq-eqb, Bool.leb-false, Bool.leb-true, Option.slice_get_past, Option.slice_get_read}
-use Rattle.std.specs.{Prelude.if◌then◌else◌, Prelude.leb, Slice.IsItemAt}
+use Rattle.std.specs.{Prelude.if◌then◌else◌, Prelude.leb, Prelude.option_map, Slice.IsItemAt}
 use Rattle.iot_client.specs.{Calls.is_over_if_any, Calls.live_numbered, Calls.may_end_if_any, Ties.Live}
-use Rattle.iot_exchange.proofs.Common.{ACT_LIMIT}
-use Rattle.iot_exchange.proofs.Common.{Answers, Asks, Bool, Bor, Both, Client, ClientState, Compared, Declared, Does, DoesFrom, Err}
-use Rattle.iot_exchange.proofs.Common.{Goes, Halt, IsErrAnd, Item, ItemsStand, Keeps, KeepsDisk, KeepsDisks, Laptop, LaptopStands, List}
-use Rattle.iot_exchange.proofs.Common.{Medium, NoMemory, Nodes, None, Notes, Ok, Option, Over, Pair, Reclassed, Repeats, Result, ServerNode}
-use Rattle.iot_exchange.proofs.Common.{Some, Stage, Step, Steps, Tells, Then, Try, UpStands, Yields, act_once, after_acts, again_line}
-use Rattle.iot_exchange.proofs.Common.{ap, append-nil, begin_line, codes, disk_in, done, false, find, kept, length, line, line_of, map, not}
-use Rattle.iot_exchange.proofs.Common.{option_copied, option_map, pends, place_said, refl, same_Some, slice_get, state_in, step_line, subst}
+use Rattle.iot_exchange.proofs.Common.{Answers, Asks, Bool, Bor, Both, Client}
+use Rattle.iot_exchange.proofs.Common.{ClientState, Compared, Declared, Does, DoesFrom, Err, Goes, Halt, IsErrAnd, Item, ItemsStand, Keeps}
+use Rattle.iot_exchange.proofs.Common.{KeepsDisk, KeepsDisks, Laptop, LaptopStands, List, Medium, NoMemory, Nodes, None, Notes, Ok, Option}
+use Rattle.iot_exchange.proofs.Common.{Over, Pair, Reclassed, Repeats, Result, Same, ServerNode, Some, Stage, Step, Steps, Tells, Then}
+use Rattle.iot_exchange.proofs.Common.{Try, UpStands, Yields, act_once, after_acts, ap, append-nil, codes, disk_in, done, false, find, kept}
+use Rattle.iot_exchange.proofs.Common.{length, line, line_of, map, not, option_copied, pends, refl, same_Some, slice_get, state_in, subst}
 use Rattle.iot_exchange.proofs.Common.{sym, transaction_name, true, two, unless_over, yield_if, yielding, ℕ, [], ◌++◌, ◌-◌, ◌∙◌, ◌∷◌, ◌≡◌}
 use Rattle.iot_exchange.proofs.DoesLaws.{Certifying, OfEach, answers, asks_then, by_client, certifying, each_from, goes_from, goes_then}
 use Rattle.iot_exchange.proofs.DoesLaws.{hands_on, in_place, keeps_more, keeps_then, no_memory, noted, still, tells, then_does, yields_pair}
 use Rattle.iot_exchange.proofs.{DoesLaws.yields_then, FirstLaws.SameStage, FirstLaws.resolved, FirstLaws.same_stage}
 use Rattle.iot_exchange.proofs.StepsLaws.{also_from, answers_from, asks_from, gets_from, refuses_from, says_from}
-use Rattle.{iot_exchange.specs.Queues.EndsAloud, iot_exchange.specs.Queues.ended_as, iot_inspect.specs.declared.waiting.RunLine.RunLine}
+use Rattle.iot_exchange.specs.{Queues.EndsAloud, Queues.ended_as, Saying.place_said}
+use Rattle.iot_inspect.specs.declared.waiting.RunLine.{RunLine}
 use Rattle.iot_judging.proofs.NextLaws.{is_at_end, is_at_limit, is_next}
 use Rattle.iot_kept.specs.{Memory.classes_of, Memory.transaction, Memory.transactions, States.Transaction, States.numbered}
 use Rattle.iot_laptop.specs.Calls.{IsGoneIfAny, IsNext, NextIs, TakesStep, meant_in}
@@ -23,13 +23,13 @@ use Rattle.iot_laptop.specs.{Laptops.live_in, declared.needs.Gone.Gone}
 use Rattle.iot_machine.proofs.GroupingLaws.{looked, looks, regrouped, then_also}
 use Rattle.iot_machine.specs.Clients.{Acts, AtEnd, AtLimit, Next, Running, has_number, meant, next_away, next_by, next_step, so_far}
 use Rattle.iot_machine.specs.Events.{Closes, ReadsOf, StepsAloud, place_text, run_line, running_in, said_of, says_reads, step_text}
-use Rattle.iot_machine.specs.{Machine.is_first, Recorded.items_kept, Recorded.queue_kept, Recorded.stage_kept}
-use Rattle.iot_machine.specs.{Texts.end_line, Texts.fetch_line, Texts.queue_text, Transactions.Differs, Transactions.Ended}
-use Rattle.iot_machine.specs.Transactions.{Ends, Refuses, Same, certifies, end_by, ended_of, ends_by, fetched, next_of, step_by, step_of}
+use Rattle.iot_machine.specs.{Machine.is_first, Recorded.items_kept, Recorded.queue_kept, Recorded.stage_kept, Texts.again_line}
+use Rattle.iot_machine.specs.{Texts.begin_line, Texts.end_line, Texts.fetch_line, Texts.queue_text, Texts.step_line, Transactions.Differs}
+use Rattle.iot_machine.specs.Transactions.{Ended, Ends, Refuses, certifies, end_by, ended_of, ends_by, fetched, next_of, step_by, step_of}
 use Rattle.{iot_machine.specs.Transactions.syncs_or_waits, iot_standing.proofs.RunsLaws.RunsAs, iot_standing.proofs.RunsLaws.number_found}
 use Rattle.iot_standing.proofs.StatesLaws.{ended_is, first_is, found_stands, may_end_is, none_is, none_yields, numbered_is}
 use Rattle.iot_standing.specs.States.{IsOver, IsUnended, RunStand, next_as}
-use Rattle.iot_tree.specs.{Tree.Path, declared.questions.Question.Question}
+use Rattle.iot_tree.specs.{Tree.Path, declared.limits.TheConstants.ACT_LIMIT, declared.questions.Question.Question}
 use Rattle.iot_queue.specs.declared.items.Stage.TheVariants as stages
 use Rattle.iot_machine.specs.Clients as clients
 use Rattle.iot_kept.specs.declared.running.Running as kept_running
@@ -39,22 +39,15 @@ use Rattle.iot_machine.proofs.StepsLaws as calls
 -- ---- the transactions that wait
 
 stage_is : {stage : Stage} {m : clients.Stage} → SameStage stage m → stage ≡ stage_kept m
-stage_is (resolved it) =
-    (λ i. stages.Resolved (record { script = it.name i; budget = it.budget i; kept = it.kept i; acts = it.acts i }))
+stage_is (resolved it) = (λ i. stages.Resolved (record { script = it.name i; budget = it.budget i; kept = it.kept i; acts = it.acts i }))
 stage_is same = refl
 
 items_are : (items : List Item) (t : Nodes) (ms : List clients.Item) → ItemsStand items t ms → items ≡ items_kept t ms
 items_are [] t [] it = refl
 items_are (item ∷ items) t (m ∷ ms) it =
     let rest = items_are items (after_acts t item.acts) ms it.1 ∙ ap (λ (u : Nodes). items_kept u ms) it.0.tree in
-    (λ i. record {
-      tid = it.0.number i;
-      script = it.0.name i;
-      budget = it.0.budget i;
-      acts = it.0.acts i;
-      option = it.0.option i;
-      stage = stage_is (same_stage item.stage m.stage it.0.stage) i;
-    } ∷ rest i)
+    let stage = stage_is (same_stage item.stage m.stage it.0.stage) in
+    rw (← rest, ← it.0.acts, ← it.0.number, ← it.0.name, ← it.0.budget, ← it.0.option, ← stage)
 items_are items t ms it = absurd it
 
 pub queue_are : (items : List Item) (t : Nodes) (m : ClientState) → t ≡ m.held → ItemsStand items t m.items → items ≡ queue_kept m
@@ -67,10 +60,9 @@ lines_are : (rs : List kept_running.Running) (lives : List Live) (m : Client) (m
     → classes_of rs ≡ map (λ live. live.first) lives → RunStand (transactions rs) lives m.first ms → map line_of rs ≡ map (run_line m) ms
 lines_are [] [] m [] classes stand = refl
 lines_are (r ∷ rs) (live ∷ lives) m (it ∷ ms) classes stand =
-    let same : r.first ≡ live.first = cc in
-    let class : r.first ≡ is_first it.number m = same ∙ stand.0.class in
-    (λ i. record { tid = stand.0.number i; script = stand.0.name i; first = class i; acts = stand.0.acts i }
-    ∷ lines_are rs lives m ms (cc) stand.1 i)
+    let here = stand.0 in
+    let rest = lines_are rs lives m ms (cc) stand.1 in
+    cc
 lines_are rs lives m ms classes stand = absurd stand
 
 -- an element that is lent is the one at its place
@@ -161,21 +153,9 @@ module _ {D : Type 0} {medium : Medium D} {scripts : List Declared} {laptop : La
         (place_text (next_step (is_first it.number m) it))) (clients.numbered number m.node.durable)
     stepped_said wrote =
         let k = run_found in
-        let over : Bool = is_over_if_any (numbered number (state_in laptop).running)
-        (live_numbered number (state_in laptop).running (live_in laptop)) in
-        let place : place_said over (length r.acts) ≡ place_text (next_step (is_first k.it.number m) k.it) =
-        ap (place_said over) k.stands.acts
-        ∙ sym (place_by (is_first k.it.number m) k.it over (ended_is _ _ _ _ here.state number k.it k.is)) in
-        rw k.is (wrote ∙ (λ i. x ++ step_line (transaction_name (here.name i) number) (k.stands.acts i) (place i)))
+        rw k.is (cc (place_by (is_first k.it.number m) k.it _ (ended_is _ _ _ _ here.state number k.it k.is)))
 
 -- ---- in a list
-
--- the one that is meant is the one with its number
-pub record Meant (which : Option ℕ) (number : ℕ) (s : ClientState) : Type 0 where
-  pub it : Running
-  pub is : meant which s ≡ Some it
-  pub found : clients.numbered number s ≡ Some it
-  pub same : it.number ≡ number
 
 first_found : (it : Running) (running : List Running) → slice_get running 0 ≡ Some it → find (has_number it.number) running ≡ Some it
 first_found it [] is = absurd cc
@@ -185,12 +165,13 @@ meant_found : (which : Option ℕ) (s : ClientState) (it : Running) → meant wh
 meant_found (Some k) s it is = rw (← number_found k s.running it is) at is
 meant_found None s it is = first_found it s.running is
 
-pub meant_as : {which : Option ℕ} {number : ℕ} {s : ClientState} (o : Option Running) → meant which s ≡ o
-    → option_map (λ it. it.number) o ≡ Some number → Meant which number s
-meant_as None is named = absurd cc
-meant_as {which} {s = s} (Some it) is named =
-    let same = same_Some it.number _ named in
-    record { it = it; is = is; found = subst (λ (n : ℕ). clients.numbered n s ≡ Some it) same (meant_found which s it is); same = same }
+-- the one that is meant is the one with its number
+meant_as : (which : Option ℕ) (number : ℕ) (s : ClientState) (o : Option Running) → meant which s ≡ o
+    → option_map (λ it. it.number) o ≡ Some number
+    → (it : Running) × (meant which s ≡ Some it) × (clients.numbered number s ≡ Some it) × (it.number ≡ number)
+meant_as which number s None is named = absurd cc
+meant_as which number s (Some it) is named =
+    let same = same_Some it.number _ named in (it, is, rw (← same) (meant_found which s it is), same)
 
 none_named : (o : Option Running) → option_map (λ it. it.number) o ≡ None → o ≡ None
 none_named None named = refl
@@ -218,8 +199,8 @@ module _ {D : Type 0} {medium : Medium D} {scripts : List Declared} {u : Both D}
       → DoesFrom medium scripts names c (next (Some it)) pair v x y result)
       → Does medium scripts (Then (Asks (λ pair. meant which (kept pair))) next) u v x y result
   for_meant which is keeps each = each_from keeps (λ names c pair here.
-      let r = meant_as {which = which} {s = kept pair} _ refl (sym (meant_is here.client.is which) ∙ is) in
-      asks_from (sym r.is) (each names c pair r.it here r.found r.same))
+      let r = meant_as which _ (kept pair) _ refl (sym (meant_is here.client.is which) ∙ is) in
+      asks_from (sym r.1) (each names c pair r.0 here r.2 r.3))
 
 -- ---- one that is lent
 
@@ -315,9 +296,6 @@ module _ {D : Type 0} {medium : Medium D} {scripts : List Declared} (number : �
         (by_client (yields_then number (act_once number)) keeps (rw was at own) ((rw was at did) scripts)))
 
 -- the steps of the one that is meant, and what is said of it then
-abbrev pub aloud : (most : ℕ) → Running → Try Pair (Unit {0})
-aloud most it = Goes (Repeats most (Steps it.number true)) (λ _. Closes (step_text it.number))
-
 module _ {D : Type 0} {medium : Medium D} {scripts : List Declared} {u : Both D} (which : Option ℕ) {number : ℕ} (most : ℕ)
     (is : meant_in which (state_in u.laptop).running ≡ Some number) {v : Both D} {x : List ℕ} where
   pub aloud_by : {z : List ℕ} {result : Result (Unit {0}) Halt}
@@ -332,8 +310,7 @@ pub ends_aloud : {D : Type 0} {medium : Medium D} {scripts : List Declared} {u w
     {result : Result (Unit {0}) Halt} (gone : Gone) {b : Bool} → KeepsDisks medium u u → y ≡ x ++ end_line (ended_as gone).name
     → gone.first ≡ b → Does medium scripts (syncs_or_waits (ended_as gone) b) u w y z result
     → Does medium scripts (EndsAloud (ended_as gone)) u w x z result
-ends_aloud {u = u} {x = x} {y} gone keeps wrote is it =
-    then_does (λ names c. calls.says (λ pair here. wrote)) keeps (rw (← is) at it)
+ends_aloud {u = u} {x = x} {y} gone keeps wrote is it = then_does (λ names c. calls.says (λ pair here. wrote)) keeps (rw (← is) at it)
 
 abbrev pub after_found : Ended → Compared → Try Pair (Unit {0})
 after_found gone Same = EndsAloud gone
@@ -405,13 +382,9 @@ module _ {D : Type 0} {medium : Medium D} {scripts : List Declared} {u : Both D}
         certified_then (keeps_then did.disks more.disks) (λ names c pair it here found same.
         let e = is_gone scripts pair.client it here.client.is found in
         let told_as : Ended = ended_as gone in
-        let gone_is : (record told_as { number = it.number }) ≡ ended_of it (yield_if it.number (pends pair) pair) =
-        (λ i. record {
-          number = it.number;
-          name = e.name i;
-          printed = e.did i;
-          first = (e.class ∙ ap (λ (n : ℕ). is_first it.number (yielding n pair.client)) (sym same)) i;
-        }) ∙ ap (ended_of it) (yields_pair it.number pair) in
+        let yielded = ap (ended_of it) (yields_pair it.number pair) in
+        let class = e.class ∙ ap (λ (n : ℕ). is_first it.number (yielding n pair.client)) (sym same) in
+        let gone_is : (record told_as { number = it.number }) ≡ ended_of it (yield_if it.number (pends pair) pair) = cc in
         (goes_then {next = after_found (ended_of it (yield_if it.number (pends pair) pair))} was did
         (subst (λ (g : Ended). Does medium scripts (EndsAloud g) v w y z result) gone_is more)).step _ _ _ here)
 
@@ -421,6 +394,4 @@ module _ {D : Type 0} {medium : Medium D} {scripts : List Declared} {u : Both D}
         → z ≡ y ++ again_line (transaction_name v.laptop.name number) read question → Does medium scripts (Ends which) u v x z (Ok tt)
     end_again {v} {y} {z} read question was did wrote = certified_then did.disks (λ names c pair it here found same.
         goes_from {next = after_found (ended_of it (yield_if it.number (pends pair) pair))} was did here (λ after there.
-        let name = there.client.is.name ∙ same_Some _ _ (sym there.client.named ∙ here.client.named)
-        ∙ ap (λ (p : Pair). p.client.name) (yields_pair it.number pair) in
-        says_from (wrote ∙ (λ i. y ++ again_line (transaction_name (name i) (sym same i)) read question)) there))
+        let yielded = yields_pair it.number pair in says_from (cc) there))

@@ -185,7 +185,6 @@ Replied medium message None old new x y = Asked medium message None old new x y
 Replied medium message (Some reply) old new x y = Came medium message reply old new x y
 
 -- whatever is asked, no reply comes
-pub record MissesAll {D : Type 0} (medium : Medium D) (scripts : List Declared) (names : List (List ℕ)) (c : ℕ) (old new : Both D) : Type
-    0 where
-  pub none : (query : Query) (x : List ℕ) → StepsTo (UpStands medium scripts names c) (UpStands medium scripts names c)
-      (Exchange (request_of query)) old new x x None
+pub record MissesAll {D : Type 0} (medium : Medium D) (old new : Both D) : Type 0 where
+  pub none : (scripts : List Declared) (names : List (List ℕ)) (c : ℕ) (query : Query) (x : List ℕ)
+      → StepsTo (UpStands medium scripts names c) (UpStands medium scripts names c) (Exchange (request_of query)) old new x x None

@@ -2,7 +2,7 @@
 ghost use Rattle.std.specs.Prelude.{◌++◌, ◌≡◌};
 ghost use Rattle.iot_exchange.specs.Pairs.{AsksFor, IsReady, KeepsDisks};
 ghost use Rattle.iot_exchange.specs.Pairs.{KeepsServed, LendsIfReplied, MissesAll, Query, Replied, Serves, Spells, request_of, two};
-ghost use Rattle.iot_exchange.specs.Words.{Declared, IfOk, List, OnOk, ServerStands, false, is_up, state_in, true, ℕ};
+ghost use Rattle.iot_exchange.specs.Words.{IfOk, List, OnOk, ServerStands, false, is_up, state_in, true, ℕ};
 ghost use Rattle.iot_server_node.specs.{Messages.IsSomeRequest, Messages.said_of, Servers.ServerIsSound};
 
 use iot_disk::Disk;
@@ -28,8 +28,7 @@ pub(crate) fn exchange<D: Disk>(
     ensures state { IfOk result (λ _. state_in laptop.new ≡ state_in laptop.old) }
     ensures disks { KeepsDisks D.medium (two laptop.old server.old) (two laptop.new server.new) }
 {
-    let up = server.is_up();
-    match laptop.pass(up) {
+    match laptop.pass(server.is_up()) {
         Passage::Away | Passage::RequestLost => Ok(None),
         Passage::ReplyLost => {
             let _lost = serve(server, alloc, message, out)?;
@@ -82,8 +81,7 @@ fn say_committed(message: &Message, number: Option<u64>, out: &mut Text) -> Resu
 pub(crate) fn miss<D: Disk>(laptop: &mut Laptop<D>, server: &ServerNode<D>)
     requires ready { IsReady D.medium (two laptop.old server.now) }
     requires down { laptop.old.link.up ≡ false }
-    ensures all { (scripts : List Declared) (names : List (List ℕ)) (c : ℕ) → MissesAll D.medium scripts names c
-        (two laptop.old server.now) (two laptop.new server.now) }
+    ensures all { MissesAll D.medium (two laptop.old server.now) (two laptop.new server.now) }
     ensures state { state_in laptop.new ≡ state_in laptop.old }
     ensures disks { KeepsDisks D.medium (two laptop.old server.now) (two laptop.new server.now) }
 {

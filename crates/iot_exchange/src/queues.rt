@@ -80,8 +80,8 @@ pub(crate) fn sync<D: Disk>(
     if !laptop.is_connected() {
         // Nothing is spelled for a server that no message reaches.
         return match laptop.decision() {
-            Ok(_) => {
-                say_of(b"manual ", &transaction, out)?;
+            Ok(by_hand) => {
+                say_of(b"manual ", &by_hand, out)?;
                 Ok(Synced::Stays)
             }
             Err(_) => {

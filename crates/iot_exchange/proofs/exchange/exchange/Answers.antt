@@ -5,13 +5,13 @@ use Rattle.iot_exchange.proofs.exchange.exchange.Goals as goal
 pub returns-in-Away-clause-replied : goal.returns-in-Away-clause-replied
 returns-in-Away-clause-replied g c = record {
   is = λ scripts names at query asks.
-      unsent c.args.server.now c.is_up-up.ensures c.pass.ensures.passage c.pass.ensures.after c.in-Away.is;
+      unsent c.args.server.now c.is_up.ensures c.pass.ensures.passage c.pass.ensures.after c.in-Away.is;
 }
 
 pub returns-in_ok-_lost-in-ReplyLost-clause-replied : goal.returns-in_ok-_lost-in-ReplyLost-clause-replied
 returns-in_ok-_lost-in-ReplyLost-clause-replied g c = record {
   is = λ scripts names at query asks.
-      reply_lost c.args.server.now c.is_up-up.ensures c.pass.ensures.passage c.pass.ensures.after (grows query) _ c.in-ReplyLost.is
+      reply_lost c.args.server.now c.is_up.ensures c.pass.ensures.passage c.pass.ensures.after (grows query) _ c.in-ReplyLost.is
       (c.in_ok-_lost-in-ReplyLost.ensures.asks names query asks);
 }
 
@@ -20,7 +20,7 @@ returns-in-Some-clause-replied g c = record {
   ready = c.requires.ready;
   asked = record {
     is = λ scripts names at query asks.
-        comes c.args.server.now c.is_up-up.ensures c.pass.ensures.passage c.pass.ensures.after (grows query) c.in-Both.is
+        comes c.args.server.now c.is_up.ensures c.pass.ensures.passage c.pass.ensures.after (grows query) c.in-Both.is
         (rw c.in-Some.is at (c.in_ok-reply-in-Both.ensures.asks names query asks));
   };
   same = c.pass.ensures.both c.in-Both.is;
@@ -31,6 +31,6 @@ returns-in-Some-clause-replied g c = record {
 pub returns-in-None-clause-replied : goal.returns-in-None-clause-replied
 returns-in-None-clause-replied g c = record {
   is = λ scripts names at query asks.
-      none_comes c.args.server.now c.is_up-up.ensures c.pass.ensures.passage c.pass.ensures.after (grows query) c.in-Both.is
+      none_comes c.args.server.now c.is_up.ensures c.pass.ensures.passage c.pass.ensures.after (grows query) c.in-Both.is
       (rw c.in-None.is at (c.in_ok-reply-in-Both.ensures.asks names query asks)) c.broke.ensures;
 }

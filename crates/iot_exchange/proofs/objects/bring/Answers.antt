@@ -4,7 +4,7 @@ use Rattle.iot_exchange.proofs.objects.bring.Goals as goal
 
 pub returns-then-not-is_connected-clause-does : goal.returns-then-not-is_connected-clause-does
 returns-then-not-is_connected-clause-does g c = λ scripts. missed (errand_of c.args.errand) hold c.miss.ensures.disks (λ names at.
-    (c.miss.ensures.all scripts names at).none
+    c.miss.ensures.all.none scripts names at
     (Objects 0 nothing_held nothing_held (state_in c.args.laptop.now).held (errand_of c.args.errand)) _)
 
 pub returns-clause-does : goal.returns-clause-does

@@ -13,5 +13,4 @@ pub returns-in_err-say_walk : goal.returns-in_err-say_walk
 returns-in_err-say_walk g c scripts = no_memory c.from_residual-in_err-say_walk.ensures.1 (c.take.ensures scripts).disks
 
 pub held-requires : goal.held-requires
-held-requires g c =
-    (ready_after c.in_ok-take.was (c.take.ensures c.requires.ready.scripts) c.requires.ready.stands).ready.alive
+held-requires g c = (ready_after c.in_ok-take.was (c.take.ensures c.requires.ready.scripts) c.requires.ready.stands).ready.alive

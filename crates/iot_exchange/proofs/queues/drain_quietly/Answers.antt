@@ -1,4 +1,4 @@
-use Rattle.iot_exchange.proofs.Common.{sym, ◌∙◌}
+use Rattle.iot_exchange.proofs.Common.{false, true}
 use Rattle.iot_exchange.proofs.DoesLaws.{answers, anyhow, asks_then, drained_is, goes_then, hands_on, ready_after, still}
 use Rattle.iot_exchange.proofs.queues.drain_quietly.Goals as goal
 
@@ -14,9 +14,9 @@ refresh-requires g c = (ready_after c.in_ok-sync_all.was c.sync_all.ensures c.re
 pub returns-then-not-is_drained : goal.returns-then-not-is_drained
 returns-then-not-is_drained g c =
     goes_then c.in_ok-sync_all.was c.sync_all.ensures
-    (asks_then (drained_is (sym c.is_drained.ensures ∙ c.if-not-is_drained.true)) (answers c.sync_all.ensures.disks))
+    (asks_then (drained_is false (cc)) (answers c.sync_all.ensures.disks))
 
 pub returns : goal.returns
 returns g c =
     goes_then c.in_ok-sync_all.was c.sync_all.ensures
-    (asks_then (drained_is (sym c.is_drained.ensures ∙ c.if-not-is_drained.false)) (c.refresh.ensures _))
+    (asks_then (drained_is true (cc)) (c.refresh.ensures _))

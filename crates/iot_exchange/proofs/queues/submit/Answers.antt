@@ -11,7 +11,7 @@ take_verdict-requires-clause-told g c =
 pub returns-in_err-told-in-Some : goal.returns-in_err-told-in-Some
 returns-in_err-told-in-Some g c scripts =
     submits_told c.args.submitted c.requires.first (rw c.in-Some.is at c.in_ok-reply.ensures.replied) c.in_ok-reply.ensures.disks
-    c.take_verdict.ensures.keeps (rw (c.in_ok-reply.ensures.state, c.deref.ensures.value) at c.take_verdict.ensures.does)
+    c.take_verdict.ensures.keeps (rw c.deref.ensures.value at c.take_verdict.ensures.does)
     (λ verdict option spells has. hands_on (ap done c.in_err-told-in-Some.was)
     (synced_err c.in_err-told-in-Some.field-0.0 _ c.from_residual-in_err-told-in-Some.ensures.1))
 
@@ -20,7 +20,7 @@ returns-in-Some g c scripts =
     let came = rw c.in-Some.is at c.in_ok-reply.ensures.replied in
     let is_told = rw (came.same, c.deref.ensures.value) at c.in_ok-told-in-Some.ensures.told in
     submits_told c.args.submitted c.requires.first came c.in_ok-reply.ensures.disks c.take_verdict.ensures.keeps
-    (rw (c.in_ok-reply.ensures.state, c.deref.ensures.value) at c.take_verdict.ensures.does) (λ verdict option spells has did.
+    (rw c.deref.ensures.value at c.take_verdict.ensures.does) (λ verdict option spells has did.
     let which = is_told.verdict verdict spells in
     let chosen = same_Some _ _ (sym is_told.option ∙ has) in
     rw (c.by.ensures ∙ (λ i. told_synced (which i) (chosen i))) (then_tells (ap done c.in_ok-told-in-Some.was) did

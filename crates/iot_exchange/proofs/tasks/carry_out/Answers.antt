@@ -1,6 +1,5 @@
-use Rattle.iot_exchange.proofs.Common.{Declared, DeclaredScript, ap, refl, script_at, scripts_of, sym, synced_by, ◌∙◌}
-use Rattle.iot_exchange.proofs.DoesLaws.{hands_on, tells, then_answers}
-use Rattle.iot_exchange.proofs.NamesLaws.{meant_there, named_there, script_there}
+use Rattle.iot_exchange.proofs.{Common.ap, Common.refl, Common.script_at, Common.scripts_of, Common.synced_by, DoesLaws.hands_on}
+use Rattle.iot_exchange.proofs.{DoesLaws.tells, DoesLaws.then_answers, NamesLaws.meant_there, NamesLaws.named_there, NamesLaws.script_there}
 use Rattle.iot_exchange.proofs.tasks.carry_out.Goals as goal
 
 pub returns-in_err-_synced-in-Sync : goal.returns-in_err-_synced-in-Sync
@@ -46,8 +45,7 @@ returns-in-Repair g c =
     rw c.in-Repair.is
     (c.repair.ensures c.args.server.now c.requires.ready.ready _ (script_at (scripts_of c.args.scripts.now) c.in-Repair.script)
     (named_there c.args.scripts.now c.in-Repair.script may c.requires.apart)
-    (ap (λ (s : Declared). s.name) (sym (script_there c.args.scripts.now may c.index-scripts-script-in-Repair.is))
-    ∙ ap (λ (w : DeclaredScript). w.name) c.index-scripts-script-in-Repair.is))
+    (cc (script_there c.args.scripts.now may c.index-scripts-script-in-Repair.is)))
 
 pub returns-in_ok-say_queue-in-Queue : goal.returns-in_ok-say_queue-in-Queue
 returns-in_ok-say_queue-in-Queue g c = rw c.in-Queue.is (tells c.requires.ready.ready.keeps

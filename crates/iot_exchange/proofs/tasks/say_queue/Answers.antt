@@ -1,5 +1,6 @@
-use Rattle.iot_exchange.proofs.Common.{State, ap, on_ok_weaker, ◌++◌, ◌∙◌}
-use Rattle.{iot_exchange.proofs.TransactionsLaws.says_queue, iot_inspect.specs.Texts.queue_text}
+use Rattle.iot_exchange.proofs.Common.{ap, on_ok_weaker, ◌++◌, ◌∙◌}
+use Rattle.iot_exchange.proofs.TransactionsLaws.{says_queue}
+use Rattle.{iot_inspect.specs.Texts.queue_text, iot_kept.specs.States.State}
 use Rattle.iot_exchange.proofs.tasks.say_queue.Goals as goal
 
 pub returns : goal.returns

@@ -1,6 +1,7 @@
-use Rattle.iot_exchange.proofs.Common.{Transaction, ap, begin_line, option_copied, option_map, refl, sym, transaction_name, ◌++◌, ◌∙◌}
+use Rattle.iot_exchange.proofs.Common.{ap, option_copied, refl, sym, transaction_name, ◌++◌, ◌∙◌}
 use Rattle.iot_exchange.proofs.DoesLaws.{goes_then, hands_on, ready_after, tells}
 use Rattle.iot_exchange.proofs.TransactionsLaws.{begun_said, lent_run, none_said}
+use Rattle.{std.specs.Prelude.option_map, iot_machine.specs.Texts.begin_line, iot_node.specs.declared.lines.Transaction.Transaction}
 use Rattle.iot_exchange.proofs.transactions.begin_aloud.Goals as goal
 
 pub returns-in_err-number : goal.returns-in_err-number

@@ -1,7 +1,8 @@
-use Rattle.iot_exchange.proofs.Common.{Ok, Transaction, again_line, ap, name_of, sym, ◌++◌, ◌∙◌}
+use Rattle.iot_exchange.proofs.Common.{Ok, ap, name_of, sym, ◌++◌, ◌∙◌}
 use Rattle.iot_exchange.proofs.DoesLaws.{asks_then, by_client, certifies_one, hands_on, ready_after, refuses}
 use Rattle.iot_exchange.proofs.TransactionsLaws.{certified_then, end_again, end_joined, none_meant, not_ended}
 use Rattle.iot_laptop.specs.{Calls.compared_if, declared.needs.Certified.Certified}
+use Rattle.{iot_machine.specs.Texts.again_line, iot_node.specs.declared.lines.Transaction.Transaction}
 use Rattle.iot_exchange.proofs.transactions.end.Goals as goal
 
 pub returns-in_default : goal.returns-in_default

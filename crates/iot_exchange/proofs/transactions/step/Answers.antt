@@ -5,8 +5,7 @@ use Rattle.iot_exchange.proofs.TransactionsLaws.{fetched_loud, fetched_quiet, le
 use Rattle.iot_exchange.proofs.transactions.step.Goals as goal
 
 pub returns-in_default : goal.returns-in_default
-returns-in_default g c scripts =
-    steps_none c.args.number c.args.loud (lent_run c.run.ensures.running c.in_default.is) c.requires.keeps
+returns-in_default g c scripts = steps_none c.args.number c.args.loud (lent_run c.run.ensures.running c.in_default.is) c.requires.keeps
 
 pub returns-in_err-step : goal.returns-in_err-step
 returns-in_err-step g c scripts =

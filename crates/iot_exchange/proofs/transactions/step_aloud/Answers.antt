@@ -1,6 +1,7 @@
-use Rattle.iot_exchange.proofs.Common.{place_said, refl, step_line, sym, transaction_name, ◌++◌, ◌∙◌}
+use Rattle.iot_exchange.proofs.Common.{refl, sym, transaction_name, ◌++◌, ◌∙◌}
 use Rattle.iot_exchange.proofs.DoesLaws.{asks_then, hands_on, no_memory, ready_after, refuses, then_tells}
 use Rattle.iot_exchange.proofs.TransactionsLaws.{aloud_by, lent_run, none_meant, none_said, stepped_said}
+use Rattle.{iot_exchange.specs.Saying.place_said, iot_machine.specs.Texts.step_line}
 use Rattle.iot_exchange.proofs.transactions.step_aloud.Goals as goal
 
 pub returns-in_default : goal.returns-in_default
