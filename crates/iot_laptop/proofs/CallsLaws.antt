@@ -62,11 +62,8 @@ none_bad old new Passes {held} {reply} {t} only spells passes None none answer r
     not_refused at (no_changes bad is) = let both : Ok spells.changes ≡ Err at = sym (only spells.changes spells.spelled) ∙ is in absurd cc
 
     by : (answer : Result (Unit {0}) ClientFault) → RefusesReply None (Makes Passes held reply) old new answer → IfErr answer MayFail
-    by (Ok t) refuses = tt
-    by (Err faults.NoMemory) refuses = tt
-    by (Err faults.Stopped) refuses = tt
     by (Err (faults.BadReply at)) refuses = absurd (not_refused at refuses.0)
-    by (Err other) refuses = absurd refuses
+    by other refuses = search rules
 
 -- ---- answers
 
@@ -101,9 +98,7 @@ pub record Called {D T : Type 0} (medium : Medium D) (laptop : Laptop D) (was no
   pub up : laptop.post ≡ Up (record { client = was })
   pub was_tied : IsTied medium was
   pub placed : place_of was ≡ laptop.place
-  pub count : ℕ
-  pub goes : GoesOn medium (record laptop { post = Up (record { client = now }) }) new count answer x y result
-  pub counted : count ≡ records_in laptop
+  pub goes : GoesOn medium (record laptop { post = Up (record { client = now }) }) new (records_in laptop) answer x y result
   pub tied : OnOk answer (IsTied medium now)
   pub counts : CountsFault answer (medium.faults (disk_of was)) (medium.faults (disk_of now))
   pub arms : medium.arms (disk_of now) ≡ medium.arms (disk_of was)
@@ -113,7 +108,7 @@ pub called : {D T : Type 0} {medium : Medium D} {laptop : Laptop D} {was now : C
     → GoesOn medium (record laptop { post = Up (record { client = now }) }) new count answer x y result → count ≡ records_in laptop
     → OnOk answer (IsTied medium now) → CountsFault answer (medium.faults (disk_of was)) (medium.faults (disk_of now))
     → medium.arms (disk_of now) ≡ medium.arms (disk_of was) → Called medium laptop was now answer new x y result
-called it goes counted tied counts arms = search rules
+called it goes counted tied counts arms = let goes_so = rw counted at goes in search rules
 
 -- what is known of a client of the machine before it, which keeps this state, and of what runs this besides
 pub record Known {D : Type 0} (medium : Medium D) (scripts : List Declared) (s : State) (lives : List Live) (laptop : Laptop D)
@@ -166,7 +161,7 @@ module _ {D T : Type 0} {medium : Medium D} {laptop : Laptop D} {was now : Clien
     answered appends r same =
         rw (sym same)
         (call.goes.step (record { client = was }) (record { client = now }) next m.node refl (rw call.up at here.node) appends
-        (call.counted ∙ ap records_by call.up))
+        (ap records_by call.up))
 
     -- it went on, to where this stands
     pub goes_at : {after_it : Laptop D → machine.Client → Type 0} (t : T) → result ≡ Ok t → Notes change was now
@@ -354,8 +349,7 @@ module _ {D T : Type 0} {medium : Medium D} {laptop : Laptop D} {was now : Clien
   -- what a reply brings is held so, if what runs stands for the same then
   pub takes : {purpose : Purpose} {held : Nodes → ClientState → ClientState} {reply : List ℕ} → ReadsObjects reply
       → OnOk answer (Brings purpose reply was now) → OnOk answer (live_of now ≡ live_of was)
-      → (IsErrOf answer Stopped
-      → CutsOffByTree purpose reply (stamps_of was) s (records_of was) (medium.may_leave (disk_of now)))
+      → (IsErrOf answer Stopped → CutsOffByTree purpose reply (stamps_of was) s (records_of was) (medium.may_leave (disk_of now)))
       → ((scripts : List Declared) (first : List ℕ) (m : ClientState) → KeptLive scripts s (live_of was) first m → (t : Nodes)
       → CanFollow s (brought_for purpose t) → IsTree t → IsSpelledTree t
       → KeptLive scripts (after s (brought_for purpose t)) (live_of was) first (held t m))
@@ -385,8 +379,7 @@ module _ {D T : Type 0} {medium : Medium D} {laptop : Laptop D} {was now : Clien
 -- no stamp is a server's after a start
 pub fresh_trails : {D : Type 0} (old : Laptop D) (post : Post (Seated D) D) (on : Bool)
     → posts.live_of besides post ≡ (if on then Some none_besides else None) → KeepsTrail (stamps_in old) (stamps_by post)
-fresh_trails old post on same = λ server bound positive it.
-    none_trails (stamps_by post) (fresh_lent post on same) server bound positive
+fresh_trails old post on same = λ server bound positive it. none_trails (stamps_by post) (fresh_lent post on same) server bound positive
 
 -- they are the same if what is known besides is
 pub again_trails : {D : Type 0} (old new : Post (Seated D) D) → posts.live_of besides new ≡ posts.live_of besides old

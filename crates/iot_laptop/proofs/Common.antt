@@ -12,7 +12,7 @@ pub use Rattle.iot_laptop.specs.Below.{AreNamed, Call, ClientState, Declared, If
 pub use Rattle.iot_laptop.specs.Below.{OnOk, PostStands, Seated, State, Up, acts_output, live_numbered, no_text, numbered, records_of}
 pub use Rattle.iot_laptop.specs.Calls.{Before, CutsAll, EndsAlone, Returned, UnlessNoMemory, done}
 pub use Rattle.iot_laptop.specs.Laptops.{ClientStands, IsLent, KeepsTrails, LaptopStands, Reclassed, Stands, StandsAnyhow}
-pub use Rattle.iot_laptop.specs.Laptops.{all_second, disk_by, is_alive, live_by, live_in, stamps_by, stamps_in, state_by, state_in}
+pub use Rattle.iot_laptop.specs.Laptops.{all_second, disk_in, is_alive, live_by, live_in, stamps_by, stamps_in, state_by, state_in}
 pub use Rattle.iot_laptop.specs.Seats.{Besides, IsClientImage, begun_of, besides, none_besides, seating}
 pub use Rattle.{iot_link.specs.Links.connected, iot_machine.proofs.PossiblyLaws.possibly_sure}
 pub use Rattle.iot_machine.proofs.StepsLaws.{answers, asks, at_each, at_one, bind, does, joined, quiet}

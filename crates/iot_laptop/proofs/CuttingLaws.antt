@@ -37,10 +37,8 @@ module _ {D : Type 0} {medium : Medium D} {laptop : Laptop D} {was now : Client 
   kept_then : (number acts : ℕ) (scripts : List Declared) (m : machine.Client) → Before medium laptop scripts m
       → CanFollow s (Cut number acts)
       → StateKept (after s (Cut number acts)) (cut acts m.node.durable) × AreNamed scripts (cut acts m.node.durable)
-  kept_then number acts scripts m here follows = (
-    cut_kept s m.node.durable (kept_in scripts m here) number acts follows,
-    cut_named scripts acts m.node.durable here.named,
-  )
+  kept_then number acts scripts m here follows =
+      (cut_kept s m.node.durable (kept_in scripts m here) number acts follows, cut_named scripts acts m.node.durable here.named)
 
   -- what it answered, by what ran
   did : (told : Option (ℕ × ℕ)) → result ≡ Ok told → CutsIfAny s.running told was now
@@ -98,8 +96,7 @@ module _ {D : Type 0} {medium : Medium D} {laptop : Laptop D} {was now : Client 
   abbrev IsCut : (scripts : List Declared) → ClientState → (acts : ℕ) → Laptop D → machine.Client → Type 0
   IsCut scripts before acts l m = Before medium l scripts m × (m.node.durable ≡ cut acts before)
 
-  writes : (told : ℕ × ℕ) (ok : result ≡ Ok (Some told)) (scripts : List Declared) (m : machine.Client)
-      → Before medium laptop scripts m
+  writes : (told : ℕ × ℕ) (ok : result ≡ Ok (Some told)) (scripts : List Declared) (m : machine.Client) → Before medium laptop scripts m
       → StepFrom (IsCut scripts m.node.durable (first_cut told ok).it.acts) (Writes (cut (first_cut told ok).it.acts)) m new x y true
   writes told ok scripts m here =
       let first = first_cut told ok in
@@ -116,10 +113,7 @@ module _ {D : Type 0} {medium : Medium D} {laptop : Laptop D} {was now : Client 
       let same = same_Some told (first.own.number, first.it.acts) first.it.is in
       finds first.own first.rest first.ran first.it.acts first.it.notes.follows last z (λ scripts it later named m h.
       let it_is = writes told ok scripts m h.here in
-      let back : Back medium scripts later new it_is.next = record {
-        here = it_is.stands.0;
-        runs = rw (it_is.stands.1, h.runs) refl;
-      } in
+      let back : Back medium scripts later new it_is.next = record { here = it_is.stands.0; runs = rw (it_is.stands.1, h.runs) refl } in
       joined it_is (at_one (bind {a = tt}
       (says (λ k h.
       λ i. y ++ cut_line (transaction_name (h.here.name i) ((ap (λ (t : ℕ × ℕ). t.0) same ∙ named) i)) ((same i).1)))

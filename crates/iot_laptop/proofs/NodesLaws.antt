@@ -2,7 +2,7 @@
 use Rattle.iot_laptop.proofs.Common.{AreNamed, At, Between, Call, ChangesClasses}
 use Rattle.iot_laptop.proofs.Common.{Client, ClientStands, ClientState, Declared, Down, IsLent, IsTied, Laptop, LaptopStands, List, Medium}
 use Rattle.iot_laptop.proofs.Common.{Node, Post, PostStands, Reclassed, Seated, Some, Stands, StandsAnyhow, State, StateKept, StateStands}
-use Rattle.iot_laptop.proofs.Common.{StepFrom, StepsFrom, Up, UpStands, all_second, ap, begun_of, counts_on, disk_by, false, is_alive}
+use Rattle.iot_laptop.proofs.Common.{StepFrom, StepsFrom, Up, UpStands, all_second, ap, begun_of, counts_on, false, is_alive}
 use Rattle.iot_laptop.proofs.Common.{live_by, live_in, live_of, live_with, lives_then, map, no_text, on_is, possibly_sure, refl, rules}
 use Rattle.iot_laptop.proofs.Common.{seating, second_class, stamps_by, state_by, state_in, state_of, subst, sym, true, ℕ, [], ◌∙◌, ◌≡◌}
 use Rattle.iot_laptop.proofs.SeatsLaws.{known_again, none_known}
@@ -146,7 +146,7 @@ reclasses {D} {medium} {laptop} {was} {now} up same tied first lives = record {
   place = refl;
   state = same.state ∙ sym (ap state_by up);
   stamps = same.stamps ∙ sym (ap stamps_by up);
-  disk = ap Some same.disk ∙ sym (ap disk_by up);
+  disk = rw up (ap Some same.disk);
   stands = λ scripts m here.
       let post : Post (Seated D) D = Up (record { client = now }) in
       let there : Posted medium laptop post m.node =

@@ -47,8 +47,7 @@ second_of number running lives live found = absurd cc
 pub none_waits : (items : List Item) (number : ℕ) (running : List Transaction) (lives : List Live) (live : Live)
     → live_numbered number running (yielded_to items number running lives) ≡ Some live → live.first ≡ true → items ≡ []
 none_waits [] number running lives live found first = refl
-none_waits (item ∷ items) number running lives live found first =
-    cc (second_of number running lives live found)
+none_waits (item ∷ items) number running lives live found first = cc (second_of number running lives live found)
 
 -- ---- it begins
 
@@ -58,8 +57,7 @@ module _ {D : Type 0} {medium : Medium D} {laptop : Laptop D} {was now : Client 
   given = (state_of was).last + 1
 
   pub begins : (script : Declared) (option : OnConflictNamed) (first : Bool) → IsScript script.code
-      → IfOk answer (λ number. number ≡ (state_of was).last + 1)
-      → IfOk answer (λ number. Notes (Begun number script.name option) was now)
+      → IfOk answer (λ number. number ≡ (state_of was).last + 1) → IfOk answer (λ number. Notes (Begun number script.name option) was now)
       → OnOk answer (live_of now ≡ live_of was ++ record { first = first; code = Some script.code } ∷ [])
       → (IsErrOf answer Stopped → CutsOff (Begun given script.name option) (state_of was) (records_of was) (medium.may_leave (disk_of now)))
       → Begins medium script option first laptop new x y result
@@ -158,8 +156,7 @@ module _ {D : Type 0} (was : Client D) (number : ℕ) where
     stepped step ok = so_of _ _ _ (IfOk-at_ok _ (answered_so call step ok) does)
 
     -- the act in which it stopped
-    halted : result ≡ Err Over
-        → OfRun (λ it first code. CutsOffNext it first code s (records_of was) (medium.may_leave (disk_of now)))
+    halted : result ≡ Err Over → OfRun (λ it first code. CutsOffNext it first code s (records_of was) (medium.may_leave (disk_of now)))
     halted same = so_of _ _ _ (stops (call.goes.stopped same))
 
     -- nothing but its class is another
@@ -180,8 +177,7 @@ module _ {D : Type 0} (was : Client D) (number : ℕ) where
     steps_by (Ok (steps.Fetch request path)) same =
         let it = stepped (steps.Fetch request path) same in
         let kept = stays (steps.Fetch request path) same it.so.1.stays in
-        let after : live_in new ≡ known =
-        ap live_in (IfOk-at_ok _ same call.goes.same) ∙ IfOk-at_ok _ (answered_so call (steps.Fetch request path) same) lives in
+        let after : live_in new ≡ known = ap live_in (IfOk-at_ok _ same call.goes.same) ∙ IfOk-at_ok _ (answered_so call _ same) lives in
         let state : state_in new ≡ s = kept.0.state ∙ ap state_by call.up in
         let stamps : stamps_in new ≡ stamps_of was = kept.0.stamps ∙ ap stamps_by call.up in (
           kept.0,
@@ -222,8 +218,7 @@ module _ {D : Type 0} (was : Client D) (number : ℕ) where
   module _ {medium : Medium D} {laptop : Laptop D} {now : Client D} {answer : Result EndedIs ClientFault} {new : Laptop D} {x y : List ℕ}
       {result : Result EndedIs Halt} (call : Called medium laptop was now answer new x y result) (output : List ℕ)
       (does : IfOk answer (λ ended. IsSoOfRun (λ it first code. EndIs was it first code ended now) number s (live_of was)))
-      (lives : IfOk answer (λ ended. live_of now
-      ≡ lives_after ended number s.running known))
+      (lives : IfOk answer (λ ended. live_of now ≡ lives_after ended number s.running known))
       (stops : IsErrOf answer Stopped → IsSoOfRun (λ it first code. CutsOffEnd it code s (records_of was)
       (medium.may_leave (disk_of now))) number s (live_of was)) where
     did : (ended : EndedIs) → result ≡ Ok ended → OfRun (λ it first code. EndIs was it first code ended now)
@@ -304,8 +299,7 @@ module _ {D : Type 0} (was : Client D) (number : ℕ) where
         → IfOk (certified_if laptop.name output r) (IsGoneIfAny medium number laptop)
     is_gone printed (Ok (ends.Joined tid class)) ok = λ scripts m it here runs.
         let so = did (ends.Joined tid class) ok in
-        let kept = known_then call scripts m here in
-        let same = kept_both number s.running m.node.durable.running kept.kept.running so.own so.is it runs in
+        let same = kept_both number s.running m.node.durable.running (known_then call scripts m here).kept.running so.own so.is it runs in
         let stands = found_then call scripts m here it runs so.own so.besides so.is so.lives in
         record {
           name = λ i. transaction_name (here.name i) ((so.so.0 ∙ same.number) i);

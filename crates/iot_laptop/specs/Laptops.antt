@@ -74,8 +74,7 @@ abbrev pub NodeStands : {D : Type 0} → Medium D → Laptop D → machine.Clien
 NodeStands medium laptop m = PostStands (seating medium laptop.place) medium no_text laptop.post m.node
 
 -- one that is alive, among these scripts
-pub record LaptopStands {D : Type 0} (medium : Medium D) (scripts : List Declared) (laptop : Laptop D)
-    (m : machine.Client) : Type 0 where
+pub record LaptopStands {D : Type 0} (medium : Medium D) (scripts : List Declared) (laptop : Laptop D) (m : machine.Client) : Type 0 where
   pub name : laptop.name ≡ m.name
   pub link : laptop.link ≡ m.link
   pub alive : m.node.alive ≡ true
@@ -84,8 +83,7 @@ pub record LaptopStands {D : Type 0} (medium : Medium D) (scripts : List Declare
   pub named : AreNamed scripts m.node.durable
 
 -- one that is alive or down, among these scripts: also a record in doubt names none but them
-pub record ClientStands {D : Type 0} (medium : Medium D) (scripts : List Declared) (laptop : Laptop D)
-    (m : machine.Client) : Type 0 where
+pub record ClientStands {D : Type 0} (medium : Medium D) (scripts : List Declared) (laptop : Laptop D) (m : machine.Client) : Type 0 where
   pub name : laptop.name ≡ m.name
   pub link : laptop.link ≡ m.link
   pub node : NodeStands medium laptop m
@@ -137,8 +135,7 @@ IsFirst number laptop = IsFirstOf (live_numbered number (state_in laptop).runnin
 
 -- the tree that each client sees for which it stands
 abbrev pub IsView : {D : Type 0} → Medium D → Nodes → Laptop D → Type 0
-IsView medium t laptop =
-    (scripts : List Declared) (m : machine.Client) → LaptopStands medium scripts laptop m → t ≡ view m.node.durable
+IsView medium t laptop = (scripts : List Declared) (m : machine.Client) → LaptopStands medium scripts laptop m → t ≡ view m.node.durable
 
 -- ---- its link
 

@@ -36,8 +36,7 @@ impl<D: Disk> Laptop<D> {
     /// The client of this name at this place, on an empty disk. It was never started.
     pub fn unopened(name: Name, place: u64, disk: D) -> Laptop<D>
         requires { IsEmpty D.medium disk }
-        ensures stands { (scripts : List Declared) → ClientStands D.medium scripts result
-            (unopened_laptop name (counts_on D.medium disk)) }
+        ensures stands { (scripts : List Declared) → ClientStands D.medium scripts result (unopened_laptop name (counts_on D.medium disk)) }
         ensures unopened { IsUnopened D.medium result }
         ensures place { result.place ≡ place }
         ensures disk { disk_in result ≡ Some disk }

@@ -53,21 +53,13 @@ fn say_lines(lines: &[Text], out: &mut Text) -> Result<(), NoMemory>
     Ok(())
 }
 
-/// The lines that a run printed.
-fn say_output(acts: &[Act], out: &mut Text) -> Result<(), NoMemory>
-    ensures { OnOk result (out.new ≡ out.old ++ acts_output acts.now) }
-{
-    for act in acts {
-        say_lines(act.lines.as_slice(), out)?;
-    }
-    Ok(())
-}
-
 /// What a run printed, by itself.
 pub(crate) fn output_of(alloc: Global, acts: &[Act]) -> Result<Text, NoMemory>
     ensures { IfOk result (λ output. output ≡ acts_output acts.now) }
 {
     let mut output = Text::new(alloc);
-    say_output(acts, &mut output)?;
+    for act in acts {
+        say_lines(act.lines.as_slice(), &mut output)?;
+    }
     Ok(output)
 }

@@ -6,6 +6,7 @@ pub returns : goal.returns
 returns g c =
     let is = c.cut-answer.ensures in
     let it = rw c.in-Up.is at c.requires.stands.node in
+    let goes = rw c.records-count.ensures at c.goes_on.ensures.goes in
     let call : Called g.D.Disk.medium c.args.self.now c.in-Up.seated.client c.cut-answer.new.self c.cut-answer.result c.goes_on.new.self
     c.args.out.now c.goes_on.new.out c.goes_on.result = search rules in
     let cuts = cut_by call is.cuts is.stopped c.goes_on.result refl in

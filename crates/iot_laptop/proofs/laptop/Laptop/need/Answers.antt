@@ -10,8 +10,7 @@ use Rattle.iot_laptop.proofs.laptop.Laptop.need.Goals as goal
 
 -- one that asks for a commit is submitted, and asks for that of what it submits
 asked_in : (place : ℕ) (s : State) (item : Item) (stage : Stage) (bytes : List ℕ)
-    → IsAsked place s.held s.access item stage (asks.Commit bytes)
-    → IsSubmittedIn stage
+    → IsAsked place s.held s.access item stage (asks.Commit bytes) → IsSubmittedIn stage
     × IsMessage IsRequest request_spelling bytes (Commit (label_in place item stage) (access_in s item stage)
     (lines_of (acts_in item stage)))
 asked_in place s item stages.Waiting bytes it = (tt, it)

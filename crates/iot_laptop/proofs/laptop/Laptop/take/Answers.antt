@@ -22,8 +22,7 @@ returns-in-Fetch g c =
 pub returns-in-Walk : goal.returns-in-Walk
 returns-in-Walk g c =
     let is = c.take_walk-answer.ensures in
-    let call =
-    called c.client_mut-in-Walk.ensures.lent c.goes_on-in-Walk.ensures.goes c.records-count.ensures is.tied is.counts is.arms in
+    let call = called c.client_mut-in-Walk.ensures.lent c.goes_on-in-Walk.ensures.goes c.records-count.ensures is.tied is.counts is.arms in
     let took = takes call is.only is.brings is.live is.stopped (λ scripts first m here t. held_live here t) (search rules) in
     let runs = holds_beside call _ c.args.reply.now is.brings (λ t. refl) in
     rw c.in-Walk.is (record { takes = rw (as_is c.goes_on-in-Walk.result) at took; running = λ may. runs })
