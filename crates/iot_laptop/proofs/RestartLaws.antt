@@ -5,7 +5,7 @@ use Rattle.{iot_kept.specs.Rules.header, iot_kept.specs.States.opening, iot_lapt
 use Rattle.iot_laptop.proofs.Common.{At, Before, Besides, Between, Bool, ClientStands, ClientState, CutsAll, Declared, Down, IsClientImage}
 use Rattle.iot_laptop.proofs.Common.{IsTree, KeepsDisk, Laptop, LaptopStands, List, Medium, Node, None, OnOk, Option, Part, Post}
 use Rattle.iot_laptop.proofs.Common.{PostStands, Reclassed, Result, Returned, Seated, Stands, StandsAnyhow, StepFrom, Then, all_second}
-use Rattle.iot_laptop.proofs.Common.{ap, append-nil, arith, asks, at_each, at_one, begun_of, bind, connected, counts_on, disk_by, does}
+use Rattle.iot_laptop.proofs.Common.{ap, append-nil, arith, asks, at_each, at_one, begun_of, bind, connected, counts_on, disk_in, does}
 use Rattle.iot_laptop.proofs.Common.{false, goes_on, inl, inr, is_alive, is_on, joined, live_in, live_with, lives_then, no_text, on_is}
 use Rattle.iot_laptop.proofs.Common.{quiet, refl, rules, same_Some, seating, state_by, state_in, subst, sym, true, ℕ, [], ◌++◌, ◌∙◌, ◌≡◌}
 use Rattle.iot_laptop.proofs.NodesLaws.{Posted, at_node, awake, awake_stands, kept_up, known_up, node_is, none_up, not_both, stands_at}
@@ -18,7 +18,7 @@ use Rattle.iot_machine.{proofs.StepsLaws.says_this, specs.Calls.Does, specs.Clie
 use Rattle.iot_machine.specs.Events.{ArmsClient, CrashesClient, CutsOff, Disconnects, RestartsClient}
 use Rattle.iot_machine.specs.{Nodes.unopened, Refining.Refines, Stops.ArmsDisk, Stops.ComesBack, Stops.Crashes, Stops.OpensNode}
 use Rattle.iot_machine.specs.Texts.{disconnect_line, line, stopped_line}
-use Rattle.iot_node.specs.{Posts.CameIf, Posts.IsStanding, Posts.Ready, Posts.words_of, declared.comeback.Comeback.TheVariants.Restart}
+use Rattle.iot_node.specs.{Posts.CameIf, Posts.IsStanding, Posts.Ready, declared.comeback.Comeback.TheVariants.Restart}
 use Rattle.iot_slots.specs.Decoding.{Decoded, NotStarted, decoded, state_of as encoded_in}
 use Rattle.iot_tree.{proofs.RowLaws.root_map, proofs.RowLaws.root_rows, specs.declared.nodes.Node.TheVariants.FarDir}
 use Rattle.iot_machine.specs.Machine as machine
@@ -54,9 +54,8 @@ module _ {D : Type 0} (medium : Medium D) (laptop : Laptop D) where
       → ((m : machine.Client) → laptop.link ≡ m.link → record m { link = link; first = [] } ≡ change m)
       → Reclassed medium all_second (record laptop { link = link }) new → Reclassed medium change laptop new
   over_second link new {change} is second =
-      let stands : (scripts : List Declared) (m : machine.Client) → LaptopStands medium scripts laptop m
-      → LaptopStands medium scripts new (change m) =
-      λ scripts m here. rw (sym (is m here.link)) (second.stands scripts (record m { link = link }) (search rules)) in search rules
+      let stands = λ (scripts : List Declared) (m : machine.Client) (here : LaptopStands medium scripts laptop m).
+      rw (is m here.link) at (second.stands scripts (record m { link = link }) (search rules)) in search rules
 
   -- so it is after any that did not get through
   pub is_over : (p : Passage) (link : LinkState) (new : Laptop D) → link ≡ after_exchange p laptop.link → p ≢ Both
@@ -71,9 +70,8 @@ module _ {D : Type 0} (medium : Medium D) (laptop : Laptop D) where
   cuts_live link new is up second =
       let over : Reclassed medium machine.cut_off laptop new =
       over_second link new (λ m same. λ i. record m { link = (is ∙ ap (connected false) same) i; first = [] }) second in
-      let stands : (scripts : List Declared) (m : machine.Client) → ClientStands medium scripts laptop m
-      → ClientStands medium scripts new (machine.cut_off m) =
-      λ scripts m here. awake (over.stands scripts m (awake_stands medium scripts laptop m up here)) in search rules
+      let stands = λ (scripts : List Declared) (m : machine.Client) (here : ClientStands medium scripts laptop m).
+      awake (over.stands scripts m (awake_stands medium scripts laptop m up here)) in search rules
 
 -- ---- its node
 
@@ -142,8 +140,7 @@ module _ {D : Type 0} (medium : Medium D) (disk : D) (empty : IsEmpty medium dis
   }
 
   pub new_stands : (name : List ℕ) (link : LinkState) → link ≡ links.opened → (scripts : List Declared)
-      → ClientStands medium scripts
-      (record { name = name; place = place; post = Down (record { disk = disk; doubt = None }); link = link })
+      → ClientStands medium scripts (record { name = name; place = place; post = Down (record { disk = disk; doubt = None }); link = link })
       (unopened_laptop name (counts_on medium disk))
   new_stands name link linked scripts =
       record { name = refl; link = linked; node = new_node; state = λ up. absurd cc; named = search rules }
@@ -189,13 +186,12 @@ module _ {D : Type 0} (medium : Medium D) (old : Laptop D) where
     pub steps : Refines (Posted medium old) (ComesBack old.name no_text) old.post post x y on
     pub is : is_on post ≡ on
     pub came : (node : Node ClientState) → Posted medium old old.post node
-        → CameIf (seating medium old.place) medium on old.post (words_of Restart old.name) x y node.durable node.doubt
+        → CameIf (seating medium old.place) medium on old.post Restart old.name x y node.durable node.doubt
 
   -- one that is alive is left as it is
   pub says_up : (x z : List ℕ) → is_alive old ≡ true → z ≡ x ++ line (codes "up") → Befalls medium RestartsClient old old x z tt
   says_up x z up wrote scripts =
-      (bind {a = true} (asks (λ m here. sym (awake_stands medium scripts old m up here).alive))
-      (says_this wrote))
+      bind {a = true} (asks (λ m here. sym (awake_stands medium scripts old m up here).alive)) (says_this wrote)
 
   pub is_standing : StandsAnyhow medium old → IsStanding (seating medium old.place) medium old.post
   is_standing stands = record { says = _; node = _; stands = stands.stands.node }
@@ -212,8 +208,7 @@ module _ {D : Type 0} (medium : Medium D) (old : Laptop D) where
     module _ {on : Bool} (back : CameBack post x y on) (scripts : List Declared) where
       turns : (m : machine.Client) → ClientStands medium scripts old m
           → StepFrom (Turned scripts on) (At machine.node (ComesBack old.name no_text)) m mid x y on
-      turns m down =
-          at_node medium old post (λ name. ComesBack name no_text) (λ _. old.name) refl (back.steps.step m.node down.node)
+      turns m down = at_node medium old post (λ name. ComesBack name no_text) (λ _. old.name) refl (back.steps.step m.node down.node)
           (λ n text step there.
           let alive : n.alive ≡ on = on_is (seating medium old.place) medium no_text post n there ∙ back.is in
           let named = (comes_within old.name no_text m.node n text on step).each (AreNamed scripts) down.named in
@@ -244,7 +239,7 @@ module _ {D : Type 0} (medium : Medium D) (old : Laptop D) where
       came_again m here =
           let s = back.steps.step m.node here.node in
           let said : s.0 ≡ stopped_line old.name = elim s.3 [ inl it ↦ absurd (not_both (sym it.0)) | inr stop ↦ stop.0 ] in
-          record { on = false; mid = y; rest = []; came = tt; whole = sym (append-nil y); stopped = λ _. s.2 ∙ ap (λ t. x ++ t) said }
+          record { on = false; mid = y; rest = []; came = back.came _ here.node; whole = sym (append-nil y); stopped = λ _. rw said at s.2 }
 
     -- ---- it is back
 
@@ -272,20 +267,15 @@ pub keeps_then : {D I : Type 0} (medium : Storing D I) (old between new : Option
     → KeepsDisk medium between new → KeepsDisk medium old new
 keeps_then medium old between new first second =
     let same : first.now ≡ second.was = same_Some first.now second.was (sym first.new_has ∙ second.old_has) in
-    record {
-      was = first.was;
-      now = second.now;
-      old_has = first.old_has;
-      new_has = second.new_has;
-      arms = second.arms ∙ ap medium.arms (sym same) ∙ first.arms;
-      faults = grind (arith, first.faults, rw (← same) at second.faults);
-    }
+    let arms = second.arms ∙ ap medium.arms (sym same) ∙ first.arms in
+    let faults = rw (← same) at second.faults in
+    record { was = _; now = _; old_has = first.old_has; new_has = second.new_has; arms = arms; faults = grind (arith, first.faults) }
 
 -- nothing was done
-pub keeps_any : {D : Type 0} (medium : Medium D) (old : Laptop D) → StandsAnyhow medium old → KeepsDisk medium (disk_by old.post)
-    (disk_by old.post)
+pub keeps_any : {D : Type 0} (medium : Medium D) (old : Laptop D) → StandsAnyhow medium old → KeepsDisk medium (disk_in old) (disk_in old)
 keeps_any medium old stands = by old.post stands.stands.node
   where
-    by : (post : Post (Seated _) _) → Posted medium old post stands.machine.node → KeepsDisk medium (disk_by post) (disk_by post)
+    by : (post : Post (Seated _) _) → Posted medium old post stands.machine.node
+        → KeepsDisk medium (disk_in (record old { post = post })) (disk_in (record old { post = post }))
     by Between here = absurd here
     by post here = record { was = _; now = _; old_has = refl; new_has = refl; arms = refl; faults = inl refl }

@@ -17,7 +17,7 @@ use Rattle.iot_laptop.specs.declared.{needs.Undecided.TheVariants.Nothing, verdi
 use Rattle.iot_machine.specs.Clients.{Acts, Next, act_once, next_step, reach, repair, resolution_of, so_far}
 use Rattle.iot_machine.specs.{Events.cuts_off, Nodes.Node, Refining.Refines, Refining.StepsTo, Stops.Appends}
 use Rattle.iot_machine.specs.Texts.{stopped_line, transaction_name}
-use Rattle.iot_node.specs.{Keeping.Appended, Posts.Answered, Posts.CameIf, Posts.StepsFrom, Posts.UpStands, Posts.words_of, Steps.Ends}
+use Rattle.iot_node.specs.{Keeping.Appended, Posts.Answered, Posts.CameIf, Posts.StepsFrom, Posts.UpStands, Steps.Ends}
 use Rattle.iot_node.specs.declared.{comeback.Comeback.TheVariants.Restart, halt.Halt.Halt, halt.Halt.TheVariants.NoMemory}
 use Rattle.{iot_node.specs.declared.halt.Halt.TheVariants.Over, iot_queue.specs.declared.items.Item.Item}
 use Rattle.{iot_queue.specs.declared.items.Stage.Stage, iot_standing.specs.Scripts.HasNamed, iot_standing.specs.Scripts.IsNamed}
@@ -97,8 +97,7 @@ Outcome D A = (old new : Laptop D) → (x y : List ℕ) → Result A Halt → Ty
 
 -- among any scripts it stands for a client by this call: it is alive after that, or the event is over, and it may be down
 abbrev pub EndsAlone : {D A : Type 0} → Medium D → List Declared → Try machine.Client A → Outcome D A
-EndsAlone medium scripts call old new x y result =
-    Ends (LaptopStands medium scripts) (ClientStands medium scripts) call old new x y result
+EndsAlone medium scripts call old new x y result = Ends (LaptopStands medium scripts) (ClientStands medium scripts) call old new x y result
 
 -- among any scripts it stands for a client, alive or down, before and after this call
 abbrev pub Befalls : {D A : Type 0} → Medium D → Call machine.Client A → (old new : Laptop D) → (x y : List ℕ) → A → Type 0
@@ -106,34 +105,29 @@ Befalls medium call old new x y a = (scripts : List Declared) → Refines (Clien
 
 -- it notes this change, or stops in that
 abbrev pub Changes : {D : Type 0} → Medium D → (ClientState → ClientState) → Outcome D (Unit {0})
-Changes medium change old new x y result =
-    (scripts : List Declared) → EndsAlone medium scripts (NotesAlone change) old new x y result
+Changes medium change old new x y result = (scripts : List Declared) → EndsAlone medium scripts (NotesAlone change) old new x y result
 
 -- its next transaction begins, with each option that this one may mean, and has this number
 abbrev pub Begins : {D : Type 0} → Medium D → Declared → OnConflict → (first : Bool) → Outcome D ℕ
 Begins medium script option first old new x y result =
     (scripts : List Declared) (on_conflict : options.OnConflict Declared) → IsNamed scripts script → HasNamed scripts on_conflict
-    → option ≡ option_named on_conflict
-    → EndsAlone medium scripts (StartsAlone script on_conflict first) old new x y result
+    → option ≡ option_named on_conflict → EndsAlone medium scripts (StartsAlone script on_conflict first) old new x y result
 
 -- the first that waits is to be resolved by the script of this name
 abbrev pub Repairs : {D : Type 0} → Medium D → (name : List ℕ) → Outcome D (Unit {0})
-Repairs medium name old new x y result =
-    (scripts : List Declared) (script : Declared) → IsNamed scripts script → script.name ≡ name
+Repairs medium name old new x y result = (scripts : List Declared) (script : Declared) → IsNamed scripts script → script.name ≡ name
     → EndsAlone medium scripts (NotesAlone (repair script)) old new x y result
 
 -- each client for which it stands plans this for its first that waits
 abbrev pub Plans : {D : Type 0} → Medium D → List Declared → Laptop D → Plan → Type 0
 Plans medium scripts laptop plan =
-    (m : machine.Client) → LaptopStands medium scripts laptop m
-    → head_plan m.node.durable.held m.node.durable.items ≡ Some plan
+    (m : machine.Client) → LaptopStands medium scripts laptop m → head_plan m.node.durable.held m.node.durable.items ≡ Some plan
 
 -- on the tree that the reply brings the first that waits is resolved as it is planned, if it is planned by this script
 abbrev pub Resolves : {D : Type 0} → Medium D → (reply : List ℕ) → Code → Outcome D (Unit {0})
 Resolves medium reply code old new x y result =
     (t : Nodes) → SpellsTree nothing_held reply t → (scripts : List Declared) (plan : Plan) → Plans medium scripts old plan
-    → plan.script.code ≡ code
-    → EndsAlone medium scripts (NotesAlone (reach (clients.Resolved (resolution_of plan t)))) old new x y result
+    → plan.script.code ≡ code → EndsAlone medium scripts (NotesAlone (reach (clients.Resolved (resolution_of plan t)))) old new x y result
 
 -- ---- what it asks for
 
@@ -247,8 +241,7 @@ meant_in None running = option_map (λ it. it.number) (slice_get running 0)
 abbrev pub IsNext : {D : Type 0} → Medium D → (number : ℕ) → Laptop D → Next → Type 0
 IsNext medium number laptop next =
     (scripts : List Declared) (m : machine.Client) (it : clients.Running) → LaptopStands medium scripts laptop m
-    → clients.numbered number m.node.durable ≡ Some it
-    → next_step (machine.is_first it.number (yielding number m)) it ≡ next
+    → clients.numbered number m.node.durable ≡ Some it → next_step (machine.is_first it.number (yielding number m)) it ≡ next
 
 -- if it stops in a step, that was an act
 abbrev pub NextIs : {D : Type 0} → Medium D → (number : ℕ) → Laptop D → Result Step Halt → Type 0
@@ -314,8 +307,7 @@ pub record IsTold {D : Type 0} (reply : List ℕ) (laptop : Laptop D) (said : To
 abbrev pub TakesVerdict : {D : Type 0} → Medium D → (reply : List ℕ) → Outcome D (Unit {0})
 TakesVerdict medium reply old new x y result =
     (told : serving.Verdict) (option : OnConflict) → SpellsVerdict (head_reads (state_in old).items) reply told
-    → head_option (state_in old).items ≡ Some option
-    → Changes medium (told_change told option) old new x y result
+    → head_option (state_in old).items ≡ Some option → Changes medium (told_change told option) old new x y result
 
 -- ---- a restart
 
@@ -339,7 +331,7 @@ pub record Came {D : Type 0} (medium : Medium D) (old : Laptop D) (x y : List �
   pub on : Bool
   pub mid : List ℕ
   pub rest : List ℕ
-  pub came : CameIf (seating medium old.place) medium on old.post (words_of Restart old.name) x mid m.node.durable m.node.doubt
+  pub came : CameIf (seating medium old.place) medium on old.post Restart old.name x mid m.node.durable m.node.doubt
   pub whole : y ≡ mid ++ rest
   pub stopped : on ≡ false → y ≡ x ++ stopped_line old.name
 

@@ -7,7 +7,7 @@ use Rattle.iot_machine.specs.{Nodes.armed, Nodes.back, Nodes.changed, Nodes.doub
 use Rattle.iot_machine.specs.{Stops.Appends, Stops.ComesBackAs, Stops.IsStopped, Stops.OpensNode, Stops.SettlesAs, Texts.stopped_line}
 use Rattle.iot_node.specs.Disks.{KeepsImages, counts_on}
 use Rattle.iot_node.specs.Keeping.{Appended, Armed, CanStart, Comes, Doubts, EachIs, Failed, Fails, HoldSame, IsEither, Keeping}
-use Rattle.iot_node.specs.Posts.{CameIf, DownStands}
+use Rattle.iot_node.specs.{Posts.CameIf, Posts.DownStands, Posts.words_of, declared.comeback.Comeback.Comeback}
 use Rattle.iot_node.specs.Posts.{HoldsBy, HoldsEither, IsStanding, Lasts, PostStands, Ready, StepsFrom, UpStands, back_said, disk_of, is_on}
 use Rattle.iot_node.specs.Prelude.{Between, Call, Counts, Doubt, Down, Node, Storing, Up, next}
 use Rattle.iot_node.specs.declared.post.{Fallen.Fallen, Post.Post}
@@ -289,10 +289,10 @@ module _ {K S D I : Type 0} {disks : K → D} (keeping : Keeping K S D I disks) 
     }
 
     -- it came back from the image that the disk had then, which is said
-    pub came : {made : K} {number : ℕ} (words x y : List ℕ) → Comes keeping medium disk made
-        → ((n : ℕ) (s : S) → keeping.stands made n s → number ≡ n) → y ≡ x ++ back_said words fallen.doubt number
-        → CameIf keeping medium true post words x y node.durable node.doubt
-    came {number = number} words x y comes counted wrote =
+    pub came : {made : K} {number : ℕ} (by : Comeback) (name x y : List ℕ) → Comes keeping medium disk made
+        → ((n : ℕ) (s : S) → keeping.stands made n s → number ≡ n) → y ≡ x ++ back_said (words_of by name) fallen.doubt number
+        → CameIf keeping medium true post by name x y node.durable node.doubt
+    came {number = number} by name x y comes counted wrote =
         rw is
         (record {
           image = medium.reads disk;
@@ -304,7 +304,7 @@ module _ {K S D I : Type 0} {disks : K → D} (keeping : Keeping K S D I disks) 
           ];
         })
       where
-        said : {n : ℕ} → number ≡ n → y ≡ x ++ back_said words fallen.doubt n
+        said : {n : ℕ} → number ≡ n → y ≡ x ++ back_said (words_of by name) fallen.doubt n
         said is = rw is at wrote
 
 module _ {K S D I : Type 0} {disks : K → D} (keeping : Keeping K S D I disks) (medium : Storing D I) {post : Post K D}

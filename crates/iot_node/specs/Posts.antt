@@ -1,6 +1,6 @@
 -- Which node of the machine a node over a keeper stands for.
 use Rattle.std.specs.Prelude.{Bool, codes, if◌then◌else◌, ◌++◌, ◌==◌, ◌≡◌, ◌⊎◌}
-use Rattle.iot_machine.specs.Texts.{kept_as, lost_as}
+use Rattle.iot_machine.specs.Texts.{kept_as, lost_as, stopped_line}
 use Rattle.iot_node.specs.{Disks.OnlyImage, Disks.counts_on, Keeping.EachIs, Keeping.IsEither, Keeping.Keeping}
 use Rattle.iot_node.specs.Prelude.{Between, Call, Doubt, Down, Err, Halt, JournalFault, List, NoMemory}
 use Rattle.iot_node.specs.Prelude.{Node, None, Ok, Option, Over, Result, Some, Storing, Up, false, line, next, option_map, true, ℕ}
@@ -127,6 +127,8 @@ module _ {K S D I : Type 0} {disks : K → D} (keeping : Keeping K S D I disks) 
         ⊎ ((after : S) × (y ≡ x ++ back_said words fallen.doubt (next count)) × (doubt ≡ Some after)
         × keeping.turning image count durable after)
 
-  abbrev pub CameIf : (on : Bool) → Post K D → (words x y : List ℕ) → (durable : S) → (doubt : Option S) → Type 0
-  CameIf true (Down fallen) words x y durable doubt = CameFrom fallen words x y durable doubt
-  CameIf on post words x y durable doubt = Unit {0}
+  -- if it was down: so, or it has stopped again, which is said
+  abbrev pub CameIf : (on : Bool) → Post K D → Comeback → (name x y : List ℕ) → (durable : S) → (doubt : Option S) → Type 0
+  CameIf true (Down fallen) by name x y durable doubt = CameFrom fallen (words_of by name) x y durable doubt
+  CameIf false (Down fallen) by name x y durable doubt = y ≡ x ++ stopped_line name
+  CameIf on post by name x y durable doubt = Unit {0}

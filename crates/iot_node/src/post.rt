@@ -198,7 +198,7 @@ impl<K: Keeper<P>, P> Post<K, P> {
         // The image that it came back from decides whether the record in doubt was kept.
         ensures came { IfOk result (λ on. (says : K.Kept → K.Kept → List ℕ) (node : Node K.Kept)
             → PostStands (K.keeping place) K.medium says self.old node
-            → CameIf (K.keeping place) K.medium on self.old (words_of by name.now) out.old out.new node.durable node.doubt) }
+            → CameIf (K.keeping place) K.medium on self.old by name.now out.old out.new node.durable node.doubt) }
         ensures on { IfOk result (λ on. is_on self.new ≡ on) }
         ensures live { IfOk result (λ on. live_of K.live self.new ≡ if on then Some K.fresh else None) }
         ensures disk { KeepsDisk K.medium (disk_of K.disks self.old) (disk_of K.disks self.new) }

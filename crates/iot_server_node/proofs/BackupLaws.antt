@@ -1,11 +1,11 @@
 -- The server's backup: how it is armed, and how the server goes on from it.
-use Rattle.{iot_machine.specs.Nodes.armed, iot_server_node.proofs.BeginningLaws.lasts_go_on}
-use Rattle.iot_server_node.proofs.Common.{AreSo, Bool, ComesBackAs, Commit, Counts, Disks, Doubt, Down, HasAnswered, HoldsBy}
-use Rattle.iot_server_node.proofs.Common.{Image, KeepsCommits, Lasts, List, MayLeave, Medium, Node, None, Option, Pick, Post, PostStands}
-use Rattle.iot_server_node.proofs.Common.{Refines, ServerKeeper, ServerNode, ServerStands, Some, ap, arith, arming_as, counts_on}
-use Rattle.iot_server_node.proofs.Common.{disk_of, disks_in, false, inl, inr, is_on, is_up, kept_text, lists, on_both, option_map}
-use Rattle.iot_server_node.proofs.Common.{placed, promote_words, refl, same_Some, server_name, subst, sym, true, ℕ, ◌+◌, ◌∙◌, ◌≡◌}
-use Rattle.iot_server_node.proofs.{PairsLaws.both_so, PairsLaws.other_left, ServersLaws.Posted, ServersLaws.known_comes_back}
+use Rattle.iot_machine.specs.{Nodes.armed, Texts.promote_words}
+use Rattle.iot_server_node.proofs.{BeginningLaws.lasts_go_on, Common.AreSo, Common.Bool, Common.ComesBackAs, Common.Commit, Common.Counts}
+use Rattle.iot_server_node.proofs.Common.{Disks, Doubt, Down, HasAnswered, HoldsBy, Image, KeepsCommits, Lasts, List, MayLeave, Medium}
+use Rattle.iot_server_node.proofs.Common.{Node, None, Option, Pick, Post, PostStands, Refines, ServerKeeper, ServerNode, ServerStands, Some}
+use Rattle.iot_server_node.proofs.Common.{ap, arith, arming_as, counts_on, disk_of, disks_in, false, inl, inr, is_on, is_up, kept_text}
+use Rattle.iot_server_node.proofs.Common.{lists, on_both, option_map, placed, refl, same_Some, server_name, subst, sym, true, ℕ, ◌+◌, ◌∙◌}
+use Rattle.iot_server_node.proofs.{Common.◌≡◌, PairsLaws.both_so, PairsLaws.other_left, ServersLaws.Posted, ServersLaws.known_comes_back}
 use Rattle.iot_server_node.specs.Disks.{ArmsOther, Sides, other_of, sides, sides_of}
 use Rattle.iot_server_node.specs.Prelude.{Arms, armed_with}
 use Rattle.iot_server_node.specs.Servers.{ArmsServersBackup, HasBackup, HasPlaces, Promotes, given_up_in, is_promoted, turned_post}
@@ -60,8 +60,7 @@ module _ {D : Type 0} (medium : Medium D) (is_image : (disk : D) → medium.may_
   -- an image of both, of which there is no backup
   alone : {P : List ℕ → Type 0} {Q : (one other : List ℕ) → Type 0} (first last : D) (image : Image)
       → MayLeave medium (placed true first last) image → P image.disk → AreSo P Q image
-  alone {Q = Q} first last image left is =
-      record { disk = is; backup = other_left medium (Q image.disk) None image.backup tt left.backup }
+  alone {Q = Q} first last image left is = record { disk = is; backup = other_left medium (Q image.disk) None image.backup tt left.backup }
 
   -- the backup holds what both held
   turned_holds : (first last : D) (count : ℕ) (doubt : Option Doubt) (arms : Arms) (node : Node (List Commit))

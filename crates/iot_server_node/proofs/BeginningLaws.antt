@@ -60,8 +60,7 @@ module _ {D : Type 0} (medium : Medium D) where
   -- the disks of a server go on from the state of its list
   pub stands_go_on : (names : List (List ℕ)) (server : ServerNode D) (node : Node (List Commit)) (n : ℕ)
       → ServerStands medium names server node n → DiskGoesOn (on_both medium) (state_of node.durable) (disk_of server)
-  stands_go_on names server node n here =
-      lasts_go_on names server.post node here.known (lasts medium names server node n here)
+  stands_go_on names server node n here = lasts_go_on names server.post node here.known (lasts medium names server node n here)
 
   -- and still does
   module _ (old new : ServerNode D) where
@@ -73,8 +72,7 @@ module _ {D : Type 0} (medium : Medium D) where
         record { keeps = λ names node n here. lasts_go_on names new.post node here.known (still (kept_text names) node here.post) }
 
     pub commits_kept : KeepsRecords (on_both medium) (disk_of old) (disk_of new) → KeepsCommits medium old new
-    commits_kept it =
-        record { keeps = λ names node n here. it.keeps (state_of node.durable) (stands_go_on names old node n here) }
+    commits_kept it = record { keeps = λ names node n here. it.keeps (state_of node.durable) (stands_go_on names old node n here) }
 
     pub commits_same : disk_of new ≡ disk_of old → KeepsCommits medium old new
     commits_same same = commits_kept (records_same (on_both medium) (disk_of old) (disk_of new) same)

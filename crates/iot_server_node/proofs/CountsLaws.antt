@@ -21,8 +21,7 @@ module _ {D : Type 0} (medium : Medium D) where
       → CountsStart fault (counts disk None given_up) (counts left None given_up)
   alone_start start.NoMemory bytes disk left given_up takes cause arms =
       λ i. record { faults = cause i + faults_in medium given_up; arms = arms i }
-  alone_start start.Stopped bytes disk left given_up takes cause arms =
-      record { faults = omega (arith, cause); arms = arms }
+  alone_start start.Stopped bytes disk left given_up takes cause arms = record { faults = omega (arith, cause); arms = arms }
   alone_start fault bytes disk left given_up takes cause arms = absurd takes
 
   pub pair_start : (fault : StartFault) (one other : List ℕ) (disk left backup behind : D) (given_up : Option D) → TakesBytes fault

@@ -36,5 +36,4 @@ module _ {D : Type 0} (medium : Medium D) where
   reads_both was now given_up true it other =
       let backup = mapped_same (servers.second_of was) (servers.second_of now) it in
       λ i. record { disk = medium.reads (disk_on (same_Some _ _ other i)); backup = backup i }
-  reads_both was now given_up false it other =
-      λ i. record { disk = it i; backup = option_map medium.reads (option_map disk_on (other i)) }
+  reads_both was now given_up false it other = λ i. record { disk = it i; backup = option_map medium.reads (option_map disk_on (other i)) }

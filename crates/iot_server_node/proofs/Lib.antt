@@ -6,6 +6,5 @@ pub mod KeepersLaws
 mod StartingLaws
 pub mod ServersLaws
 mod ServingLaws
-pub mod DecidingLaws
 pub mod BeginningLaws
 pub mod BackupLaws

@@ -53,8 +53,7 @@ module _ (names : List (List ℕ)) where
   known_settled words (Some s) node after text (inr is) durable doubt = known_back node.durable node after is.1 durable
 
   pub known_comes_back : (words : List ℕ) (on : Bool) → Keeps (ComesBackAs words server_name (kept_text names)) on
-  known_comes_back words on node after text (inl is) known =
-      known_settled words node.doubt node after text is.1 known.durable known.doubt
+  known_comes_back words on node after text (inl is) known = known_settled words node.doubt node after text is.1 known.durable known.doubt
   known_comes_back words on node after text (inr is) known = rw is.2.is known
 
   pub known_armed : (calls : ℕ) (pick : Pick) → Keeps (ArmsDisk server_name calls pick) tt
@@ -199,8 +198,7 @@ module _ {D : Type 0} (medium : Medium D) (names : List (List ℕ)) where
         stands = keeps;
       };
       known = known;
-      answered =
-          it.requests ∙ ap (λ (requests : ℕ). (requests + 1) % 2 ^ 64) here.answered ∙ mod-add-mod n (2 ^ 64) 1;
+      answered = it.requests ∙ ap (λ (requests : ℕ). (requests + 1) % 2 ^ 64) here.answered ∙ mod-add-mod n (2 ^ 64) 1;
     }
 
     -- as many records as before it

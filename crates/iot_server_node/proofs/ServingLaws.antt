@@ -1,6 +1,6 @@
 -- What the server replies to a request for objects and to a submission.
-use Rattle.std.proofs.{Common.cond, Common.length-append, Common.map, Common.slice_get, Common.◌-◌, lemmas.Bool.le-leb}
-use Rattle.std.proofs.lemmas.{Bool.lt-leb, Bool.Decides.nat_tests, Iterator.Adapters.position_from-zero, Option.slice_get_cases}
+use Rattle.std.proofs.{Common.cond, Common.length-append, Common.map, Common.slice_get, Common.◌-◌, lemmas.Bool.le-leb, lemmas.Bool.lt-leb}
+use Rattle.std.proofs.lemmas.{Bool.Decides.nat_tests, Iterator.Adapters.position_from-zero, List.append-nil, Option.slice_get_cases}
 use Rattle.{std.specs.List.list_any, std.specs.List.position_from, iot_access.specs.Access.TakesPlace, iot_access.specs.Access.lines_of}
 use Rattle.iot_acts.specs.{Traces.ActsHold, Traces.ReadsHold, Traces.after_acts, Turns.DiffersAt, Turns.reads_of, Turns.turns}
 use Rattle.{iot_certify.proofs.AccessLaws.judges as judges_acts, iot_exec.specs.Serial.run_entry}
@@ -13,12 +13,12 @@ use Rattle.iot_machine.{proofs.StepsLaws.quiet, proofs.StepsLaws.says_this, spec
 use Rattle.iot_machine.specs.Serving.{Conflict, Judges, Lends, Refresh, Settled, Walk, committed, lent, number_of}
 use Rattle.{iot_machine.specs.Texts.acts_output, iot_node.specs.Keeping.Appended}
 use Rattle.{iot_node.specs.Keeping.Doubts, iot_node.specs.Posts.StepsFrom, iot_node.specs.Posts.UpStands, iot_server.specs.Replies.Answers}
-use Rattle.iot_server_node.proofs.Common.{Access, Appends, AreOf, Both, Call, CanFollow}
-use Rattle.iot_server_node.proofs.Common.{Commit, Cuts, Differs, Disks, EachIs, EachStarts, Encoded, Err, Handles, HavingAnswered, Holds}
-use Rattle.iot_server_node.proofs.Common.{If, IsAnswered, IsEither, IsGrown, IsKnown, IsMessage, IsRequest, KeepsList, Label, Leads, List}
-use Rattle.iot_server_node.proofs.Common.{MayLeave, Medium, Node, None, Option, Post, PostStands, Refuses, Reply, Request, ServerIsSound}
-use Rattle.iot_server_node.proofs.Common.{ServerKeeper, ServerNode, Some, State, StepsTo, Submits, Two, add_commit, after_commit, ap}
-use Rattle.iot_server_node.proofs.Common.{append-nil, arith, asks, bind, changed, commit_text, disks_in, false, images_of, inl, inr, is_on}
+use Rattle.iot_server_node.proofs.Common.{Access, Appends, AreOf, Both, Call, CanFollow, Commit, Cuts}
+use Rattle.iot_server_node.proofs.Common.{Differs, Disks, EachIs, EachStarts, Encoded, Err, Handles, HavingAnswered, Holds, If, IsAnswered}
+use Rattle.iot_server_node.proofs.Common.{IsEither, IsGrown, IsKnown, IsMessage, IsRequest, KeepsList, Label, Leads, List, MayLeave}
+use Rattle.iot_server_node.proofs.Common.{Medium, Node, None, Option, Post, PostStands, Refuses, Reply, Request, Served, ServerIsSound}
+use Rattle.iot_server_node.proofs.Common.{ServerKeeper, ServerNode, Some, State, StepsTo, Submits, Two, add_commit, after_commit}
+use Rattle.iot_server_node.proofs.Common.{ap, arith, asks, bind, changed, commit_text, disks_in, false, images_of, inl, inr, is_on}
 use Rattle.iot_server_node.proofs.Common.{kept_text, label_of, length, lists, number_in, on_both, option_map, refl, request_spelling, rules}
 use Rattle.iot_server_node.proofs.Common.{server_name, state_is, state_of, subst, sym, tree_after, true, ℕ, [], ◌++◌, ◌+◌, ◌∙◌, ◌∷◌, ◌≡◌}
 use Rattle.iot_server_node.proofs.{CountsLaws.failed_counts, KeepersLaws.as_many, KeepersLaws.both_map, KeepersLaws.cut_images}
@@ -26,8 +26,7 @@ use Rattle.iot_server_node.proofs.ServersLaws.{answered_off, known_stopped, live
 use Rattle.iot_server_node.specs.Messages.{SpellsCut, committed_since, printed_under, said_of}
 use Rattle.iot_server_node.specs.Prelude.{Errand, IsTree, Stamps, Submission, commit_line, nodes_of}
 use Rattle.iot_server_node.specs.Servers.{IsHanded, IsNamedIn, ServesBy, count_of, stamps_of}
-use Rattle.iot_server_node.specs.declared.{message.Message.Message, server.Served.Served}
-use Rattle.iot_stamp.specs.Refresh.{changes_on}
+use Rattle.{iot_server_node.specs.declared.message.Message.Message, iot_stamp.specs.Refresh.changes_on}
 use Rattle.iot_store.{proofs.NumbersLaws.is_old_from, specs.declared.commit.Commit.Commit as Noted}
 use Rattle.iot_tree.specs.{Snapshots.has, Tree.IsWhole, Tree.Path, declared.acts.Read.Read}
 use Rattle.iot_wire.{proofs.MessagesLaws.call_one, proofs.SpellingLaws.request_laws, specs.Meanings.Spells, specs.Messages.IsOneMessage}
@@ -63,8 +62,7 @@ module _ {D : Type 0} {medium : Medium D} (message : Message) (served : Served) 
 
     -- nothing is said by a server that has as many commits as before
     pub still_silent : servers.state_of now.server ≡ servers.state_of was.server → said_of served.committed message.handed ≡ []
-    still_silent made =
-        let n : ℕ = length (servers.state_of was.server).labels in rw (le-leb n n (omega arith)) at (said_by made)
+    still_silent made = let n : ℕ = length (servers.state_of was.server).labels in rw (le-leb n n (omega arith)) at (said_by made)
 
 -- ---- a request for objects
 
@@ -128,8 +126,7 @@ module _ {D : Type 0} (medium : Medium D) (message : Message) (client : ℕ) (he
   -- and its stamps stay
   pub stays_stamped : (served : Served) {was now : ServerKeeper D} → Handles medium message.request.items served.reply.items was now
       → stamps_of (live now) ≡ stamps_of (live was)
-  stays_stamped served it =
-      ap (λ (s : State). s.stamps) (errand_leaves client held errand (answers_it message served it asks).first).0
+  stays_stamped served it = ap (λ (s : State). s.stamps) (errand_leaves client held errand (answers_it message served it asks).first).0
 
   -- it does not stop in that, since it appends nothing
   pub lends_always : {was now : ServerKeeper D} → Refuses medium message.request.items append.Stopped was now → ⊥
@@ -169,8 +166,7 @@ not_listed labels client tid none = by (number_in labels client tid) refl
 
 -- a commit makes another state
 other_state : (before : State) (label : Label) (access : Access) → after_commit before label access ≡ before → ⊥
-other_state before label access same =
-    omega (arith, ap (λ (s : State). length s.labels) same, length-append before.labels (label ∷ []))
+other_state before label access same = omega (arith, ap (λ (s : State). length s.labels) same, length-append before.labels (label ∷ []))
 
 -- ---- a message that hands one in
 
@@ -294,8 +290,7 @@ module _ {message : Message} {it : Submission} (hands : IsHanded message it) whe
       takes_here = rw sound.stands.post.stands.has_state (takes_there sound.node.durable)
 
       abbrev Serves : Type 0
-      Serves =
-          ServesBy medium names (Judges it) (SpellsVerdict it.reads) message.handed (Some served) (live was) (live now) y y
+      Serves = ServesBy medium names (Judges it) (SpellsVerdict it.reads) message.handed (Some served) (live was) (live now) y y
 
       both : Both medium (λ old new. IsAnswered (servers.state_of was.server) old (requests.Commit label access (lines_of acts))
           served.reply.items (servers.state_of now.server) new) was now

@@ -7,10 +7,10 @@ use Rattle.{iot_judging.specs.Records.LacksCommit, iot_node.specs.Keeping.Comes,
 use Rattle.iot_server_node.proofs.Common.{AreImages, Commit, Disks, HasCause, If, IsImage, KeepsList, List, MayFollow, MayLeave, Medium}
 use Rattle.iot_server_node.proofs.Common.{None, Only, OnlyImage, Option, Server, ServerKeeper, Slots, Some, StandFor, StartFault, State}
 use Rattle.iot_server_node.proofs.Common.{TakesBytes, ap, decoded, disk_on, disks_in, faults_in, header, images_of, inl, inr, lists, next}
-use Rattle.iot_server_node.proofs.Common.{on_both, option_map, other_in, reads_may_leave, records_in, refl, rules, same_Some, state_of, sym}
-use Rattle.iot_server_node.proofs.{Common.ℕ, Common.◌+◌, Common.◌∙◌, Common.◌≡◌, CountsLaws.alone_start, CountsLaws.pair_start}
-use Rattle.iot_server_node.proofs.{KeepersLaws.keeps_images, KeepersLaws.keeps_of, PairsLaws.both_so, PairsLaws.so_as}
-use Rattle.{iot_server_node.specs.Records.AreTurning, iot_store.specs.Standing.EachBrings, iot_store.specs.Standing.EachFollows}
+use Rattle.iot_server_node.proofs.Common.{on_both, option_map, other_in, reads_may_leave, refl, rules, same_Some, state_of, sym, ℕ, ◌+◌}
+use Rattle.iot_server_node.proofs.{Common.◌∙◌, Common.◌≡◌, CountsLaws.alone_start, CountsLaws.pair_start, KeepersLaws.keeps_images}
+use Rattle.iot_server_node.{proofs.KeepersLaws.keeps_of, proofs.PairsLaws.both_so, proofs.PairsLaws.so_as, specs.Records.AreTurning}
+use Rattle.iot_store.specs.Standing.{EachBrings, EachFollows, records_in}
 use Rattle.iot_server.specs.Servers as servers
 
 -- the second disk that is there

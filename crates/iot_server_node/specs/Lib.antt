@@ -1,6 +1,5 @@
 pub mod Prelude
 pub mod Disks
-pub mod Deciding
 pub mod Keepers
 pub mod Messages
 pub mod Records

@@ -1,8 +1,8 @@
 -- What the server's disks keep of the machine's list: a checkpoint of its first commits, and a record for each of the others.
 use Rattle.std.specs.Prelude.{◌⊎◌}
 use Rattle.iot_server_node.specs.Disks.{Image}
-use Rattle.iot_server_node.specs.Prelude.{Commit, If, Leads, List, None, Option, Some, State, Storing, Two, next, rules, ℕ}
-use Rattle.iot_store.specs.Standing.{StandFor}
+use Rattle.iot_server_node.specs.Prelude.{Commit, If, Leads, List, None, Option, Some, State, Storing, Two, rules, ℕ}
+use Rattle.{iot_slots.specs.Cells.next, iot_store.specs.Standing.StandFor}
 pub use Rattle.iot_judging.specs.{Lists.stamps_from, Lists.state_of, Records.EncodesList, Records.HasList, Records.IsImage}
 pub use Rattle.{iot_judging.specs.Records.LacksCommit, iot_judging.specs.Records.records_from, iot_machine.specs.Recorded.label_of}
 

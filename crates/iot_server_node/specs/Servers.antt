@@ -5,16 +5,17 @@ use Rattle.iot_access.specs.Access.{access_of, lines_of}
 use Rattle.{iot_acts.specs.Turns.reads_of, iot_exec.specs.Serial.run_entry, iot_judging.specs.Entries.IsSpelledEntry}
 use Rattle.iot_machine.specs.{Calls.Call, Nodes.armed, Nodes.arming_as, Recorded.label_of, Stops.ComesBackAs}
 use Rattle.iot_machine.specs.Texts.{acts_output, promote_words, transaction_name}
-use Rattle.iot_node.specs.{Posts.PostStands, Posts.is_on, Posts.live_of, declared.lines.Transaction.Transaction, declared.post.Doubt.Doubt}
-use Rattle.{iot_node.specs.declared.post.Post.TheVariants.Up, iot_server.specs.declared.server.Server.Server}
+use Rattle.iot_node.specs.{Posts.PostStands, Posts.is_on, Posts.live_of, declared.lines.Transaction.Transaction}
+use Rattle.iot_node.specs.declared.post.{Doubt.Doubt, Post.Post, Post.TheVariants.Down, Post.TheVariants.Up}
+use Rattle.iot_server.specs.declared.server.Server.{Server}
 use Rattle.iot_server_node.specs.Disks.{HavePlaces, on_both, placed, sides, sides_of, turned}
 use Rattle.iot_server_node.specs.{Keepers.disks_in, Keepers.lists, Keepers.traffic_in, Messages.said_of}
-use Rattle.iot_server_node.specs.Prelude.{Arms, Bool, Commit, Disks, Down, Handed, If, IsEmpty, IsMessage, IsRequest}
-use Rattle.iot_server_node.specs.Prelude.{IsTree, KeepsDisk, Leads, List, Medium, Node, Nodes, None, Option, Pick, Post, ServerKeeper}
-use Rattle.iot_server_node.specs.Prelude.{ServerNode, Some, Stamps, State, StepsTo, Submission, Two, armed_with, false, is_some, kept_text}
+use Rattle.iot_server_node.specs.Prelude.{Arms, Bool, Commit, Disks, Handed, If, IsEmpty, IsMessage}
+use Rattle.iot_server_node.specs.Prelude.{IsRequest, IsTree, KeepsDisk, Leads, List, Medium, Node, Nodes, None, Option, Pick, ServerKeeper}
+use Rattle.iot_server_node.specs.Prelude.{Some, Stamps, State, StepsTo, Submission, Two, armed_with, false, is_some, kept_text}
 use Rattle.iot_server_node.specs.Prelude.{length, option_map, request_spelling, rules, server_name, state_of, tree_after, true, ℕ, []}
 use Rattle.iot_server_node.specs.{Records.DiskGoesOn, declared.message.Message.Message, declared.server.Served.Served}
-use Rattle.iot_store.specs.States.{opening}
+use Rattle.{iot_server_node.specs.declared.server.ServerNode.ServerNode, iot_store.specs.States.opening}
 use Rattle.iot_tree.specs.declared.{access.Access.Access, acts.Act.Act, labels.Label.Label}
 use Rattle.iot_node.specs.Posts as posts
 use Rattle.iot_server.specs.Servers as servers

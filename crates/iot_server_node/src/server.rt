@@ -6,11 +6,11 @@ ghost use Rattle.iot_machine.specs.{Machine.add_commit, Nodes.doubting, Nodes.pa
 ghost use Rattle.iot_machine.specs.{Serving.backup_name, Stops.ArmsDisk, Stops.Crashes, Stops.OpensNode, Stops.Restarts, Stops.Shows};
 ghost use Rattle.iot_machine.specs.Texts.{line, stop_line, tree_text};
 ghost use Rattle.iot_node.specs.{Disks.counts_on, Posts.CameIf, Posts.Lasts};
-ghost use Rattle.iot_server_node.specs.Prelude.{Bool, Commit};
-ghost use Rattle.iot_server_node.specs.Prelude.{Errand, IfErr, IfOk, IsEmpty, KeepsDisk, List, Node, OnOk, Promote, Restart, Some, StepsTo};
-ghost use Rattle.iot_server_node.specs.Prelude.{Submission, false, is_some, kept_text, server_name, tree_after, true, words_of, ℕ, []};
+ghost use Rattle.iot_node.specs.declared.comeback.Comeback.TheVariants.{Promote, Restart};
+ghost use Rattle.iot_server_node.specs.Prelude.{Bool, Commit, Errand, IfErr, IfOk, IsEmpty, KeepsDisk, List, Node, OnOk};
+ghost use Rattle.iot_server_node.specs.Prelude.{Some, StepsTo, Submission, false, is_some, kept_text, server_name, tree_after, true, ℕ, []};
 ghost use Rattle.iot_server.specs.Servers as servers;
-ghost use Rattle.iot_server_node.specs.{Deciding.DecidesServer, Disks.on_both, Disks.placed, Keepers.disks_in};
+ghost use Rattle.iot_server_node.specs.{Disks.on_both, Disks.placed, Keepers.disks_in};
 ghost use Rattle.iot_server_node.specs.{Keepers.lists, Messages.committed_since, Messages.printed_under, Prelude.Stamps, Prelude.nodes_of};
 ghost use Rattle.{iot_server_node.specs.Records.KeepsRecords, iot_text.specs.Texts.Extends};
 
@@ -167,11 +167,8 @@ impl<D: Disk> ServerNode<D> {
         // The image that it came back from decides whether the commit in doubt was kept.
         ensures came { OnOk result ((names : List (List ℕ)) (n : ℕ) (node : Node (List Commit))
             → ServerStands D.medium names self.old node n
-            → CameIf (lists D.medium) (on_both D.medium) (is_up self.new) (post_of self.old) (words_of Restart server_name)
+            → CameIf (lists D.medium) (on_both D.medium) (is_up self.new) (post_of self.old) Restart server_name
             out.old out.new node.durable node.doubt) }
-
-        // So if all images of its disk have the commit that is in doubt, or none has it, that decides whether it is kept.
-        ensures decided { OnOk result (DecidesServer D.medium Restart self.old out.old out.new) }
         ensures records { KeepsCommits D.medium self.old self.new }
         ensures disk { KeepsDisk (on_both D.medium) (disk_of self.old) (disk_of self.new) }
         ensures beside { KeepsBeside D.medium self.old self.new }
@@ -201,13 +198,10 @@ impl<D: Disk> ServerNode<D> {
         ensures turns { is_up self.old ≡ false → is_promoted self.old ≡ false → TurnsToBackup D.medium self.old self.new }
 
         // The image of the backup that it came back from decides whether the commit in doubt was kept.
-        ensures came { is_promoted self.old ≡ false → OnOk result ((names : List (List ℕ)) (n : ℕ) (node : Node (List Commit))
+        ensures came { OnOk result (is_promoted self.old ≡ false → (names : List (List ℕ)) (n : ℕ) (node : Node (List Commit))
             → ServerStands D.medium names self.old node n
-            → CameIf (lists D.medium) (on_both D.medium) (is_up self.new) (turned_post (post_of self.old))
-            (words_of Promote server_name) out.old out.new node.durable node.doubt) }
-
-        // So if all images of the backup have the commit that is in doubt, or none has it, that decides whether it is kept.
-        ensures decided { is_promoted self.old ≡ false → OnOk result (DecidesServer D.medium Promote self.old out.old out.new) }
+            → CameIf (lists D.medium) (on_both D.medium) (is_up self.new) (turned_post (post_of self.old)) Promote server_name
+            out.old out.new node.durable node.doubt) }
         ensures records { KeepsCommits D.medium self.old self.new }
     {
         if self.is_up() {

@@ -1,17 +1,17 @@
 -- What the disks that a world gives back hold and count: the first and the last have the list, the next what clients keep, and the others
 -- are spare.
-use Rattle.{iot_disk.specs.Disk.Storing, iot_judging.specs.Records.IsImage, iot_judging.specs.Records.LacksCommit}
-use Rattle.iot_kept.specs.{Standing.StandFor, States.Transaction}
-use Rattle.{iot_laptop.proofs.RestartLaws.keeps_any, iot_laptop.proofs.SeatsLaws.seat_images, iot_machine.specs.Events.no_text}
-use Rattle.iot_node.{proofs.PostsLaws.lasts_in, specs.Disks.CountsOn, specs.Keeping.Keeping, specs.Posts.HoldsEither, specs.Posts.disk_of}
+use Rattle.{iot_judging.specs.Records.IsImage, iot_judging.specs.Records.LacksCommit, iot_kept.specs.Standing.StandFor}
+use Rattle.{iot_kept.specs.States.Transaction, iot_laptop.proofs.RestartLaws.keeps_any, iot_laptop.proofs.SeatsLaws.seat_images}
+use Rattle.{iot_laptop.specs.Seats.IsClientImage, iot_machine.specs.Clients.ClientState, iot_machine.specs.Events.no_text}
+use Rattle.iot_node.{proofs.PostsLaws.lasts_in, specs.Disks.CountsOn, specs.Posts.HoldsEither, specs.Posts.disk_of}
 use Rattle.iot_server_node.proofs.{BackupLaws.ArePlaced, BackupLaws.placed_in as are_placed, BeginningLaws.stands_go_on, ServersLaws.lasts}
 use Rattle.iot_server_node.specs.{Disks.MayLeave, Disks.own_of, Servers.disk_of as server_disks}
 use Rattle.iot_standing.specs.Kept.{RunKept, StateKept}
 use Rattle.iot_world.proofs.BeginsLaws.{begins_there, lone, pair_of}
-use Rattle.iot_world.proofs.Common.{Between, Bool, Call, Client, ClientStands, ClientState, Commit, Counts}
-use Rattle.iot_world.proofs.Common.{Declared, Down, Each, Err, IfErr, Image, IsClientImage, KeepsDisks, KeepsNode, Laptop, List, Machine}
-use Rattle.iot_world.proofs.Common.{Medium, Node, None, Ok, OnOk, Opens, Option, Post, PostStands, Refines, Result, SameArms, ServerBegins}
-use Rattle.iot_world.proofs.Common.{Some, StandsAnyhow, StandsFor, StandsIn, State, Up, World, ap, arith, counts_on, disk_in, disks_of}
+use Rattle.iot_world.proofs.Common.{Between, Bool, Call, Client, ClientStands, Commit, Counts}
+use Rattle.iot_world.proofs.Common.{Declared, Down, Each, Err, IfErr, Image, Keeping, KeepsDisks, KeepsNode, Laptop, List, Machine, Medium}
+use Rattle.iot_world.proofs.Common.{Node, None, Ok, OnOk, Opens, Option, Post, PostStands, Refines, Result, SameArms, ServerBegins, Some}
+use Rattle.iot_world.proofs.Common.{StandsAnyhow, StandsFor, StandsIn, State, Storing, Up, World, ap, arith, counts_on, disk_in, disks_of}
 use Rattle.iot_world.proofs.Common.{false, inl, inr, is_some, kept_text, length, length-append, length-map, lists, map, map-append}
 use Rattle.iot_world.proofs.Common.{names_in, next, on_both, or_parts, other_of, paired, placed, queue_are, refl, same_Some, seating}
 use Rattle.iot_world.proofs.Common.{subst, sym, true, with_clients, with_ends, with_first, ℕ, [], ◌++◌, ◌+◌, ◌||◌, ◌∙◌, ◌∷◌, ◌≡◌, ◌⊎◌}

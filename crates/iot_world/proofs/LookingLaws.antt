@@ -1,7 +1,7 @@
 -- What one sees who looks in at a world is what the machine says: the list, what all nodes hold, and what a client shows.
 use Rattle.std.proofs.lemmas.List.{map_more, take_all, Elements.All-from_recursion, Elements.All-map, Elements.All-weaker}
-use Rattle.{std.specs.Prelude.IfSome, iot_client.specs.Ties.disk_of as client_disk}
-use Rattle.{iot_client.specs.declared.client.Client.Client as LiveClient, iot_event.specs.declared.event.NodeEvent.TheVariants.Show}
+use Rattle.iot_client.specs.{Ties.disk_of as client_disk, declared.client.Client.Client as LiveClient}
+use Rattle.iot_event.specs.declared.event.NodeEvent.TheVariants.{Show}
 use Rattle.iot_inspect.specs.{Shown.named, Shown.shown, Texts.AreOf, Texts.tree_text, Values.live_data, declared.snapshot.Json.Json}
 use Rattle.iot_laptop.proofs.NodesLaws.{lent_at}
 use Rattle.iot_laptop.specs.Laptops.{IsView, disk_by, is_alive, lent_by, live_in, state_in}
@@ -11,7 +11,7 @@ use Rattle.{iot_queue.specs.declared.items.Item.Item, iot_server.specs.Servers.s
 use Rattle.{iot_server_node.specs.Servers.IsServerOf, iot_standing.proofs.StatesLaws.view_is}
 use Rattle.iot_tree.specs.{Tree.Nodes, declared.labels.Label.Label}
 use Rattle.iot_world.proofs.Common.{AllByRecursion, Client, ClientIs, ClientStands}
-use Rattle.iot_world.proofs.Common.{Commit, Declared, IsWorldOfSome, Laptop, List, Machine, MakesStep, Medium, None, Option, Post}
+use Rattle.iot_world.proofs.Common.{Commit, Declared, IfSome, IsWorldOfSome, Laptop, List, Machine, MakesStep, Medium, None, Option, Post}
 use Rattle.iot_world.proofs.Common.{Refines, Says, Seated, Some, StandsFor, StandsIn, Up, World, ap, arith, awake_stands, client_in, codes}
 use Rattle.iot_world.proofs.Common.{disk_in, either, false, inl, inr, length, length-map, line, names_in, no_client, node_is, node_part}
 use Rattle.iot_world.proofs.Common.{queue_are, refl, same_Some, says, slice_get, sym, take, true, ℕ, [], ◌++◌, ◌+◌, ◌<◌, ◌∙◌, ◌∷◌, ◌≡◌, ◌≤◌}

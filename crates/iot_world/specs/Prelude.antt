@@ -1,6 +1,6 @@
 -- The words of other crates of which the definitions and laws of this crate speak.
 pub use Rattle.std.specs.List.{AllByRecursion}
-pub use Rattle.std.specs.Prelude.{Bool, IfOk, List, None, OnOk, Option, Some, false, length, map, true, ℕ, []}
+pub use Rattle.std.specs.Prelude.{Bool, IfOk, IfSome, List, None, OnOk, Option, Some, false, length, map, true, ℕ, []}
 pub use Rattle.{std.specs.Vec.vec_capacity, std.specs.Vec.vec_len, iot_disk.specs.Disk.Medium, iot_event.specs.Declarations.AreDeclared}
 pub use Rattle.iot_event.specs.declared.event.{ClientEvent.TheVariants.Node, Event.Event, NodeEvent.NodeEvent}
 pub use Rattle.iot_laptop.specs.Laptops.{ClientStands, KeepsTrails, SamePlace, StandsAnyhow, disk_in}

@@ -1,5 +1,6 @@
 //! The world: the server and its clients, as they are between two events.
-ghost use Rattle.std.specs.{Option.option_copied, Prelude.IfErr, Prelude.IfSome, Prelude.◌∷◌, Prelude.◌≡◌};
+ghost use Rattle.std.specs.{Option.option_copied, Prelude.IfErr, Prelude.◌∷◌, Prelude.◌≡◌};
+ghost use Rattle.iot_world.specs.Prelude.{IfSome};
 ghost use Rattle.{iot_client.specs.Ties.disk_of as client_disk, iot_event.specs.declared.event.Event.Event as Happens};
 ghost use Rattle.iot_world.specs.Prelude.{AreDeclared, IfOk, List, Machine, OnOk, disk_in, disk_of, event_part, true, []};
 ghost use Rattle.iot_server_node.specs.Servers as servers;

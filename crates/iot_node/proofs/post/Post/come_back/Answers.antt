@@ -16,8 +16,7 @@ returns-in_ok-say_back-in-Ok-clause-lasts g c says node here =
 pub returns-in_ok-say_back-in-Ok-clause-came : goal.returns-in_ok-say_back-in-Ok-clause-came
 returns-in_ok-say_back-in-Ok-clause-came g c says node here =
     came _ _ says c.restart.new.disk node (sym c.replace.ensures.value ∙ c.in-Down.is) here c.restart.ensures.image
-    (words_of c.args.by c.args.name.now) _ _ c.in-Ok.ensures.comes (c.records-number.ensures c.args.place)
-    c.in_ok-say_back-in-Ok.ensures
+    c.args.by c.args.name.now _ _ c.in-Ok.ensures.comes (c.records-number.ensures c.args.place) c.in_ok-say_back-in-Ok.ensures
 
 pub returns-in_ok-say_back-in-Ok-clause-step : goal.returns-in_ok-say_back-in-Ok-clause-step
 returns-in_ok-say_back-in-Ok-clause-step g c says =

@@ -1,5 +1,5 @@
-use Rattle.iot_server_node.proofs.{BackupLaws.over, BackupLaws.promotes, BackupLaws.promotes_records, Common.arming_as}
-use Rattle.iot_server_node.proofs.{Common.kept_text, Common.promote_words, DecidingLaws.decides, ServersLaws.answered_fresh}
+use Rattle.iot_server_node.proofs.BackupLaws.{over, promotes, promotes_records}
+use Rattle.iot_server_node.proofs.{Common.arming_as, Common.kept_text, ServersLaws.answered_fresh}
 use Rattle.iot_server_node.proofs.server.ServerNode.promote.Goals as goal
 
 pub come_back-requires-clause-stands : goal.come_back-requires-clause-stands
@@ -22,19 +22,6 @@ returns-clause-came g c own names n node here =
     rw c.in_ok-come_back.ensures.on ((rw c.turn.ensures.turned at (c.in_ok-come_back.ensures.came (kept_text names)))
     (arming_as (g.D.Disk.medium.arms c.turn.ensures.down.last) node)
     (over g.D.Disk.medium g.met.D.Disk.reads_is_image c.turn.ensures.down here))
-
-pub returns-clause-decided : goal.returns-clause-decided
-returns-clause-decided g c own =
-    let sound = c.requires.sound in
-    let it = c.turn.ensures.down in
-    let node = arming_as (g.D.Disk.medium.arms it.last) sound.node in
-    let stands = over g.D.Disk.medium g.met.D.Disk.reads_is_image it sound.stands in
-    let decided =
-    decides g.D.Disk.medium sound.names node promote_words (λ disks image. g.D.Disk.medium.may_leave disks.disk image)
-    (λ disks image left. left.disk) stands
-    (rw c.turn.ensures.turned at (c.in_ok-come_back.ensures.step (kept_text sound.names)))
-    ((rw c.turn.ensures.turned at (c.in_ok-come_back.ensures.came (kept_text sound.names))) node stands) in
-    rw it.is (rw it.is at decided)
 
 pub returns-clause-records : goal.returns-clause-records
 returns-clause-records g c =

@@ -1,9 +1,10 @@
 use Rattle.iot_world.proofs.Common.{append-nil, commits_same, on_ok_weaker, refl, rules, says, sym}
-use Rattle.iot_world.proofs.{DecidingLaws.decides_promoted, DeclaringLaws.declares_script, DisksLaws.armed_leaves, DisksLaws.nothing_leaves}
+use Rattle.iot_world.proofs.{DecidingLaws.decides_server, DeclaringLaws.declares_script, DisksLaws.armed_leaves, DisksLaws.nothing_leaves}
 use Rattle.iot_world.proofs.{DisksLaws.server_keeps, DisksLaws.server_leaves, PlacesLaws.beside_places, PlacesLaws.promoted_follows}
 use Rattle.iot_world.proofs.WorldsLaws.{arms_backup, at_server, both_ok, promotes, restarts}
 use Rattle.iot_event.specs.declared.event.Event.TheVariants as events
 use Rattle.iot_event.specs.declared.event.NodeEvent.TheVariants as nodes
+use Rattle.iot_node.specs.declared.comeback.Comeback.TheVariants as comebacks
 use Rattle.iot_world.proofs.world.World.act.Goals as goal
 
 pub returns-in_ok-push-in-Script-clause-step : goal.returns-in_ok-push-in-Script-clause-step
@@ -56,6 +57,10 @@ pub returns-in-Restart-clause-step : goal.returns-in-Restart-clause-step
 returns-in-Restart-clause-step g c =
     rw (c.in-Server.is, c.in-Restart.is) (on_ok_weaker _ (restarts _ _ _ c.restart.ensures.beside _ _) c.restart.ensures.step)
 
+pub returns-in-Restart-clause-decided : goal.returns-in-Restart-clause-decided
+returns-in-Restart-clause-decided g c = rw (c.in-Server.is, c.in-Restart.is)
+    (on_ok_weaker c.restart.result (decides_server g.D.Disk.medium comebacks.Restart _ _ _ _ c.requires.stands) c.restart.ensures.came)
+
 pub returns-in-Restart-clause-disks : goal.returns-in-Restart-clause-disks
 returns-in-Restart-clause-disks g c =
     let it = c.restart.ensures in
@@ -66,8 +71,9 @@ returns-in-Promote-clause-step g c =
     let it = c.promote.ensures in rw c.in-Promote.is (promotes _ _ _ c.promote.result _ _ it.up it.nothing it.stays it.step)
 
 pub returns-in-Promote-clause-decided : goal.returns-in-Promote-clause-decided
-returns-in-Promote-clause-decided g c =
-    rw c.in-Promote.is (decides_promoted g.D.Disk.medium c.promote.result _ _ _ _ c.promote.ensures.decided c.promote.ensures.came)
+returns-in-Promote-clause-decided g c = rw c.in-Promote.is
+    (on_ok_weaker c.promote.result (λ came own. decides_server g.D.Disk.medium comebacks.Promote _ _ _ _ c.requires.stands (came own))
+    c.promote.ensures.came)
 
 pub returns-in-Promote-clause-disks : goal.returns-in-Promote-clause-disks
 returns-in-Promote-clause-disks g c =
