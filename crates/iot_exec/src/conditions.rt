@@ -1,6 +1,7 @@
 //! Conditions and the names of loops.
 ghost use Rattle.std.specs.Prelude.{◌≡◌, IfOk, OnOk, map};
 ghost use Rattle.std.specs.Option.{option_copied};
+ghost use Rattle.iot_lang.specs.declared.words.Cond.TheVariants.{Same};
 ghost use Rattle.iot_tree.specs.Questions.{content_of};
 ghost use Rattle.iot_exec.specs.Plans.{Done};
 ghost use Rattle.iot_exec.specs.Asking.{asked, Leads, Ends};
@@ -43,17 +44,22 @@ impl<'t> Asking<'t> {
                 Some(path) => self.is_on(&path),
                 None => Ok(false),
             },
-            Cond::Same(first, second) => {
-                let Some(first) = path_of(self.alloc, env, first)? else {
-                    return Ok(false);
-                };
-                let Some(second) = path_of(self.alloc, env, second)? else {
-                    return Ok(false);
-                };
-                self.are_same(&first, &second)
-            }
+            Cond::Same(first, second) => self.are_same_words(env, first, second),
             Cond::Ok => Ok(env.ok),
         }
+    }
+
+    /// Whether the paths of two words are those of files with the same contents.
+    fn are_same_words(&mut self, env: &Env, first: &Word, second: &Word) -> Result<bool, NoMemory>
+        ensures { IfOk result (λ holds. Leads self.old (truth env.now (Same first.now second.now)) self.new (Done holds)) }
+    {
+        let Some(first) = path_of(self.alloc, env, first)? else {
+            return Ok(false);
+        };
+        let Some(second) = path_of(self.alloc, env, second)? else {
+            return Ok(false);
+        };
+        self.are_same(&first, &second)
     }
 
     /// Whether a file is at the path.
