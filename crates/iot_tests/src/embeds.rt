@@ -12,6 +12,7 @@ use iot_server::{Server, ServerFault};
 use iot_text::{Name, Path};
 use iot_tree::{ACT_LIMIT, OnConflict, Want};
 use std::alloc::Global;
+use std::process::Abort;
 use std::rc::Rc;
 use std::test::Fail;
 
@@ -185,6 +186,84 @@ fn take_verdict<D: Disk>(
     }
 }
 
+/// A day: the client holds what the server has at `/d`, runs a script by itself, and submits what waits.
+fn day<S: Disk, C: Disk>(
+    alloc: Global,
+    server: &mut Server<S>,
+    client: &mut Client<C>,
+    line: &mut Line,
+) -> Result<(), Fail>
+    requires synced { IsSynced S.medium server.old }
+    requires tied { IsTied C.medium client.old }
+    requires place { place_of client.old ≡ 0 }
+    ensures synced { OnOk result (IsSynced S.medium server.new) }
+    ensures tied { OnOk result (IsTied C.medium client.new) }
+    ensures place { OnOk result (place_of client.new ≤ 7) }
+{
+    ask(alloc, client, line, Path::parse(alloc, b"/d")?)?;
+    serve(alloc, server, line)?;
+    hold(alloc, client, line)?;
+    let script = Rc::new(alloc, parse(alloc, b"mkdir /d\n")?)?;
+    cut_all(alloc, client)?;
+    run(alloc, client, &Name::parse(b"make")?, script)?;
+    submit(alloc, client, line)
+}
+
+/// The client submits it once more, and takes the verdict.
+fn settle<S: Disk, C: Disk>(
+    alloc: Global,
+    server: &mut Server<S>,
+    client: &mut Client<C>,
+    line: &mut Line,
+) -> Result<Option<u64>, Fail>
+    requires synced { IsSynced S.medium server.old }
+    requires tied { IsTied C.medium client.old }
+    requires place { place_of client.old ≤ 7 }
+{
+    submit(alloc, client, line)?;
+    serve(alloc, server, line)?;
+    take_verdict(alloc, client, line)
+}
+
+/// The day at a server whose disk fails in the commit, at the write that makes the record count. Gives the disk.
+fn stops<S: Disk + Drop, C: Disk>(
+    rt: &impl Abort,
+    alloc: Global,
+    disk: S,
+    client: &mut Client<C>,
+    line: &mut Line,
+) -> Result<S, Fail>
+    requires tied { IsTied C.medium client.old }
+    requires place { place_of client.old ≡ 0 }
+    ensures tied { OnOk result (IsTied C.medium client.new) }
+    ensures place { OnOk result (place_of client.new ≤ 7) }
+{
+    let mut server = server_on(alloc, disk)?;
+    day(alloc, &mut server, client, line)?;
+    server.arm(false, 3, Pick::New);
+    let stopped = serve(alloc, &mut server, line);
+    assert!(rt; matches!(stopped, Err(ServerFault::Stopped)));
+    Ok(server.into_disks().0)
+}
+
+/// The server starts again from this disk, and is asked again. Gives the disk.
+fn comes_back<S: Disk + Drop, C: Disk>(
+    rt: &impl Abort,
+    alloc: Global,
+    disk: S,
+    client: &mut Client<C>,
+    line: &mut Line,
+) -> Result<S, Fail>
+    requires tied { IsTied C.medium client.old }
+    requires place { place_of client.old ≤ 7 }
+{
+    let mut server = server_on(alloc, disk)?;
+    assert_eq!(rt; server.store().number(), 1);
+    let verdict = settle(alloc, &mut server, client, line)?;
+    assert_eq!(rt; verdict, Some(1));
+    Ok(server.into_disks().0)
+}
+
 #[test]
 fn a_client_commits_at_a_server(rt: HostRuntime) -> Result<(), Fail> {
     let alloc = rt.alloc();
@@ -192,30 +271,13 @@ fn a_client_commits_at_a_server(rt: HostRuntime) -> Result<(), Fail> {
         disk: MemDisk::new(alloc),
         syncs: 0,
     };
-    let mut server = server_on(alloc, counted)?;
-    let mut client = client_on(alloc, MemDisk::new(alloc))?;
     let mut line = Line {
         request: None,
         reply: None,
     };
-
-    ask(alloc, &client, &mut line, Path::parse(alloc, b"/d")?)?;
-    serve(alloc, &mut server, &mut line)?;
-    hold(alloc, &mut client, &mut line)?;
-    let script = Rc::new(alloc, parse(alloc, b"mkdir /d\n")?)?;
-    cut_all(alloc, &mut client)?;
-    run(alloc, &mut client, &Name::parse(b"make")?, script)?;
-    submit(alloc, &client, &mut line)?;
-
-    // The server's disk fails in the commit, at the write that makes the record count. The server starts again, and is asked again.
-    server.arm(false, 3, Pick::New);
-    let stopped = serve(alloc, &mut server, &mut line);
-    assert!(rt; matches!(stopped, Err(ServerFault::Stopped)));
-    let mut server = server_on(alloc, server.into_disks().0)?;
-    assert_eq!(rt; server.store().number(), 1);
-    submit(alloc, &client, &mut line)?;
-    serve(alloc, &mut server, &mut line)?;
-    assert_eq!(rt; take_verdict(alloc, &mut client, &mut line)?, Some(1));
-    assert!(rt; server.into_disks().0.syncs > 0);
+    let mut client = client_on(alloc, MemDisk::new(alloc))?;
+    let disk = stops(&rt, alloc, counted, &mut client, &mut line)?;
+    let disk = comes_back(&rt, alloc, disk, &mut client, &mut line)?;
+    assert!(rt; disk.syncs > 0);
     Ok(())
 }

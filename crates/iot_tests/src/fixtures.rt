@@ -1,7 +1,7 @@
 //! What several tests start from.
 use iot_lang::{Script, parse};
 use iot_text::{NoMemory, Path};
-use iot_tree::{ACT_LIMIT, Files, Tree};
+use iot_tree::{ACT_LIMIT, Files, Node, Tree};
 use std::alloc::Global;
 use std::process::Abort;
 use std::rc::Rc;
@@ -22,6 +22,16 @@ pub(crate) fn tree(rt: &impl Abort, alloc: Global, text: &str) -> Result<Tree, N
     let acted = iot_exec::run_on(alloc, script, Files::new(alloc), &mut tree, ACT_LIMIT)?;
     assert!(rt; acted.ended);
     Ok(tree)
+}
+
+/// A letter for a row, in capitals if it is far.
+pub(crate) fn letter(node: &Node) -> u8 {
+    match node {
+        Node::Dir => b'd',
+        Node::File(..) => b'f',
+        Node::FarDir => b'D',
+        Node::FarFile(_) => b'F',
+    }
 }
 
 /// What a client's disk has on which nothing but its start was done: the cells, and a checkpoint of a client that knows nothing.

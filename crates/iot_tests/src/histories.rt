@@ -202,7 +202,7 @@ fn started<D: Disk + Drop>(alloc: Global, mut disk: D) -> Result<Kept<D>, StartF
     }
 }
 
-/// A running transaction: its number, whether it is first class, how many acts it has, and what its own view has at the path.
+/// A running transaction: its number, whether it is first class, how many acts it has, and what its own view has at `/d`.
 type Seen = (u64, bool, usize, Kind);
 /// The number and the budget of the first that waits.
 fn head_of<D: Disk>(kept: &Kept<D>) -> Option<(u64, u64)> {
@@ -212,8 +212,8 @@ fn head_of<D: Disk>(kept: &Kept<D>) -> Option<(u64, u64)> {
     }
 }
 
-/// What these bodies lead to: the running transactions, the first that waits and how many do, the last number, and what is at the path
-/// in the held tree and in the view.
+/// What records lead to: the running transactions, the first that waits and how many do, the last number, and what is at `/d` in the held
+/// tree and in the view.
 #[derive(Drop)]
 struct After {
     running: Vec<Seen>,
@@ -235,20 +235,29 @@ fn running_of<D: Disk>(alloc: Global, kept: &Kept<D>, path: &Path) -> Result<Vec
     Ok(seen)
 }
 
-fn seen_after(alloc: Global, bodies: &[&[u8]], path: &Path) -> Result<After, StartFault> {
-    seen_on(alloc, recorded(alloc, bodies, None)?, path)
+/// What these bodies lead to, and the last one if there is one.
+fn seen_after(alloc: Global, bodies: &[&[u8]], last: Option<&[u8]>) -> Result<After, Fail> {
+    seen_on(alloc, MemDisk::of(alloc, recorded(alloc, bodies, last)?)?)
 }
 
-/// What these bytes of a disk lead to.
-fn seen_on(alloc: Global, bytes: Vec<u8>, path: &Path) -> Result<After, StartFault> {
-    let kept = started(alloc, MemDisk::of(alloc, bytes)?)?;
+/// What this disk leads to.
+fn seen_on<D: Disk + Drop>(alloc: Global, disk: D) -> Result<After, Fail> {
+    let kept = started(alloc, disk)?;
+    seen(alloc, &kept)
+}
+
+/// What is kept.
+fn seen<D: Disk>(alloc: Global, kept: &Kept<D>) -> Result<After, Fail>
+    requires { IsSynced D.medium kept.now }
+{
+    let path = Path::parse(alloc, b"/d")?;
     Ok(After {
-        running: running_of(alloc, &kept, path)?,
-        head: head_of(&kept),
+        running: running_of(alloc, kept, &path)?,
+        head: head_of(kept),
         waiting: kept.queue().items().len(),
         last: kept.last(),
-        held: kept.held().kind(path),
-        view: kept.view().kind(path),
+        held: kept.held().kind(&path),
+        view: kept.view().kind(&path),
     })
 }
 
@@ -273,7 +282,7 @@ fn nothing_is_known_at_first(rt: HostRuntime) -> Result<(), Fail> {
 #[test]
 fn what_a_transaction_did_stays(rt: HostRuntime) -> Result<(), Fail> {
     let alloc = rt.alloc();
-    let seen = seen_after(alloc, DAY, &Path::parse(alloc, b"/d")?)?;
+    let seen = seen_after(alloc, DAY, None)?;
     assert!(rt; seen.running.is_empty());
     assert_eq!(rt; seen.head, Some((2, 0)));
     assert_eq!(rt; (seen.waiting, seen.last), (1, 2));
@@ -284,7 +293,7 @@ fn what_a_transaction_did_stays(rt: HostRuntime) -> Result<(), Fail> {
 #[test]
 fn a_transaction_starts_again(rt: HostRuntime) -> Result<(), Fail> {
     let alloc = rt.alloc();
-    let seen = seen_after(alloc, WEEK, &Path::parse(alloc, b"/d")?)?;
+    let seen = seen_after(alloc, WEEK, None)?;
     assert_eq!(rt;
         seen.running.as_slice(),
         [(3, false, 1, Kind::IsDir)].as_slice()
@@ -298,7 +307,7 @@ fn a_transaction_starts_again(rt: HostRuntime) -> Result<(), Fail> {
 #[test]
 fn a_conflict_may_be_given_up(rt: HostRuntime) -> Result<(), Fail> {
     let alloc = rt.alloc();
-    let seen = seen_after(alloc, GIVEN_UP, &Path::parse(alloc, b"/d")?)?;
+    let seen = seen_after(alloc, GIVEN_UP, None)?;
     assert!(rt; seen.running.is_empty());
     assert_eq!(rt; (seen.waiting, seen.last), (0, 3));
     assert_eq!(rt; seen.held, Kind::IsDir);
@@ -309,14 +318,13 @@ fn a_conflict_may_be_given_up(rt: HostRuntime) -> Result<(), Fail> {
 #[test]
 fn each_has_a_view_of_its_own(rt: HostRuntime) -> Result<(), Fail> {
     let alloc = rt.alloc();
-    let path = Path::parse(alloc, b"/d")?;
-    let two = seen_after(alloc, &[HELD, FIRST, SECOND, ACTED_FIRST], &path)?;
+    let two = seen_after(alloc, &[HELD, FIRST, SECOND, ACTED_FIRST], None)?;
     assert_eq!(rt;
         two.running.as_slice(),
         [(1, false, 1, Kind::IsDir), (2, false, 0, Kind::Absent)].as_slice()
     );
     assert_eq!(rt; (two.held, two.view), (Kind::Absent, Kind::Absent));
-    let one = seen_after(alloc, BOTH, &path)?;
+    let one = seen_after(alloc, BOTH, None)?;
     assert_eq!(rt;
         one.running.as_slice(),
         [(2, false, 1, Kind::IsDir)].as_slice()
@@ -330,25 +338,21 @@ fn each_has_a_view_of_its_own(rt: HostRuntime) -> Result<(), Fail> {
 #[test]
 fn what_does_not_hold_any_more_is_dropped(rt: HostRuntime) -> Result<(), Fail> {
     let alloc = rt.alloc();
-    let path = Path::parse(alloc, b"/d")?;
-    let again = seen_on(alloc, recorded(alloc, BOTH, Some(AGAIN_SECOND))?, &path)?;
+    let again = seen_after(alloc, BOTH, Some(AGAIN_SECOND))?;
     assert_eq!(rt;
         again.running.as_slice(),
         [(2, false, 0, Kind::IsDir)].as_slice()
     );
     assert_eq!(rt; (again.head, again.waiting), (Some((1, 4_096)), 1));
-    let cut = seen_on(alloc, recorded(alloc, BOTH, Some(CUT_SECOND))?, &path)?;
+    let cut = seen_after(alloc, BOTH, Some(CUT_SECOND))?;
     assert!(rt; cut.running.is_empty());
     assert_eq!(rt; (cut.waiting, cut.last), (2, 2));
     Ok(())
 }
 
-/// Whether a disk with records of these bodies, and of the last one, is damaged at this place.
-fn is_damaged(alloc: Global, bodies: &[&[u8]], last: &[u8], at: u64) -> Result<bool, StartFault> {
-    match started(
-        alloc,
-        MemDisk::of(alloc, recorded(alloc, bodies, Some(last))?)?,
-    ) {
+/// Whether this disk is damaged at this place.
+fn is_damaged<D: Disk + Drop>(alloc: Global, disk: D, at: u64) -> Result<bool, StartFault> {
+    match started(alloc, disk) {
         Ok(_) => Ok(false),
         Err(StartFault::Damaged { at: place }) => Ok(place == at),
         Err(fault) => Err(fault),
@@ -363,7 +367,8 @@ fn are_damaged(
     at: u64,
 ) -> Result<bool, StartFault> {
     for last in later {
-        if !is_damaged(alloc, bodies, last, at)? {
+        let disk = MemDisk::of(alloc, recorded(alloc, bodies, Some(last))?)?;
+        if !is_damaged(alloc, disk, at)? {
             return Ok(false);
         }
     }

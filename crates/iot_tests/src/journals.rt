@@ -5,6 +5,7 @@ ghost use Rattle.iot_journal.specs.Journal.{IsSynced};
 use iot_disk::{Disk, JournalFault, MemDisk, Pick, StartFault};
 use iot_journal::Journal;
 use std::alloc::Global;
+use std::process::Abort;
 use std::test::Fail;
 
 /// A journal with the body "ab" and no more.
@@ -21,26 +22,35 @@ fn started<D: Disk + Drop>(alloc: Global, mut disk: D) -> Result<(Journal<D>, u6
     }
 }
 
+/// The disk fails at this call of an append, and comes back. There is no call with the number 0.
+fn stops_in_an_append<D: Disk + Drop>(
+    rt: &impl Abort,
+    alloc: Global,
+    disk: D,
+    calls: u64,
+    pick: Pick,
+) -> Result<D, StartFault> {
+    let (mut journal, _) = started(alloc, disk)?;
+    journal.arm(calls, pick);
+    let want = if calls == 0 {
+        Ok(())
+    } else {
+        Err(JournalFault::Stopped)
+    };
+    assert_eq!(rt; journal.append(b"ab"), want);
+    let written = calls == 0 || calls > 2 && pick != Pick::Old;
+    let (journal, count) = started(alloc, journal.into_disk())?;
+    assert_eq!(rt; count, u64::from(written), "call {calls}");
+    Ok(journal.into_disk())
+}
+
 #[test]
 fn an_append_is_whole_or_not_at_all(rt: HostRuntime) -> Result<(), Fail> {
     let alloc = rt.alloc();
     for calls in 0..5 {
         for pick in [Pick::Old, Pick::New, Pick::Fill(165)] {
-            let (mut journal, _) = started(alloc, MemDisk::new(alloc))?;
-            journal.arm(calls, pick);
-            // There is no call with the number 0.
-            let want = if calls == 0 {
-                Ok(())
-            } else {
-                Err(JournalFault::Stopped)
-            };
-            assert_eq!(rt; journal.append(b"ab"), want);
-            let written = calls == 0 || calls > 2 && pick != Pick::Old;
-            let (journal, count) = started(alloc, journal.into_disk())?;
-            assert_eq!(rt; count, u64::from(written), "call {calls}");
-            if calls == 0 {
-                assert_eq!(rt; journal.into_disk().bytes(), ONE.as_slice());
-            }
+            let disk = stops_in_an_append(&rt, alloc, MemDisk::new(alloc), calls, pick)?;
+            assert!(rt; calls != 0 || disk.bytes() == ONE.as_slice());
         }
     }
     Ok(())

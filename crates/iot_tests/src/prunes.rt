@@ -1,21 +1,16 @@
 //! What is known of a tree.
-use crate::fixtures::{path, tree};
+use crate::fixtures::{letter, path, tree};
 use iot_prune::{away, known, prune, widen};
 use iot_text::{NoMemory, Path, Text};
-use iot_tree::{Node, Question, Tree, Want};
+use iot_tree::{Question, Tree, Want};
 use std::alloc::Global;
 use std::process::Abort;
 
-/// Each row by a letter, in capitals if it is far, and its path.
+/// Each row by its letter and its path.
 fn spelled(alloc: Global, tree: &Tree) -> Result<Text, NoMemory> {
     let mut text = Text::new(alloc);
     for row in tree.rows().as_slice() {
-        text.push(match row.1 {
-            Node::Dir => b'd',
-            Node::File(..) => b'f',
-            Node::FarDir => b'D',
-            Node::FarFile(_) => b'F',
-        })?;
+        text.push(letter(&row.1))?;
         row.0.write_to(&mut text)?;
     }
     Ok(text)

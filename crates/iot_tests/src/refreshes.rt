@@ -1,13 +1,13 @@
 //! Refreshes of a client at a server, in bytes, and what they leave on the client's disk.
 ghost use Rattle.std.specs.Prelude.{◌≡◌, ◌≤◌, IfOk, OnOk, true};
-ghost use Rattle.iot_disk.specs.Memory.{in_memory};
 ghost use Rattle.iot_server.specs.Servers.{IsSynced};
 ghost use Rattle.iot_client.specs.Calls.{HeadIsIfAny, IsPlanned};
 ghost use Rattle.iot_client.specs.Ties.{IsTied, place_of, state_of};
 
 use crate::fixtures::recorded;
+use crate::requests::started;
 use iot_client::{Client, ClientFault};
-use iot_disk::{Disk, MemDisk};
+use iot_disk::{Disk, MemDisk, StartFault};
 use iot_lang::parse;
 use iot_queue::Stage;
 use iot_server::Server;
@@ -57,27 +57,15 @@ const FAR: &[u8] = b"\x01\0\0\0\0\0\0\0\x02\0\0\0\0\0\0\0\0\x01\0\0\0\0\0\0\0\x0
     \0\0\0\0\0\0\0\x01\0\0\0\0\0\0\0\x01d\x03\0\0\0\0\0\0\0\0\
     \0\0\0\0\0\0\0\0";
 
-/// A server on a new disk.
-fn new_server(alloc: Global) -> Result<Server<MemDisk>, Fail>
-    ensures { IfOk result (λ server. IsSynced in_memory server) }
-{
-    let mut disk = MemDisk::new(alloc);
-    disk.restart();
-    match Server::start(alloc, disk) {
-        Ok(server) => Ok(server),
-        Err((_, fault)) => Err(Fail::from(fault)),
-    }
-}
-
 /// Client 0, started after a restart.
-fn client_on<D: Disk + Drop>(alloc: Global, mut disk: D) -> Result<Client<D>, Fail>
+pub(crate) fn client_on<D: Disk + Drop>(alloc: Global, mut disk: D) -> Result<Client<D>, StartFault>
     ensures tied { IfOk result (λ client. IsTied D.medium client) }
     ensures place { IfOk result (λ client. place_of client ≤ 7) }
 {
     disk.restart();
     match Client::start(alloc, disk, 0) {
         Ok(client) => Ok(client),
-        Err((_, fault)) => Err(Fail::from(fault)),
+        Err((_, fault)) => Err(fault),
     }
 }
 
@@ -105,32 +93,62 @@ fn hoard<S: Disk, C: Disk>(
     Ok(())
 }
 
-/// The client asks a new server in these bytes, which bring the root, and then once more.
-fn hoard_twice<D: Disk>(
+/// The client asks a new server in these bytes, which bring the root, and then once more. It holds the root alone, by so many records.
+fn hoard_twice<S: Disk, C: Disk>(
     rt: &impl Abort,
     alloc: Global,
-    client: &mut Client<D>,
+    server: &mut Server<S>,
+    client: &mut Client<C>,
     asks: &[u8],
+    records: u64,
 ) -> Result<(), Fail>
-    requires tied { IsTied D.medium client.old }
+    requires synced { IsSynced S.medium server.old }
+    requires tied { IsTied C.medium client.old }
     requires place { place_of client.old ≤ 7 }
 {
-    let mut server = new_server(alloc)?;
-    hoard(rt, alloc, &mut server, client, asks, ROOT)?;
-    hoard(rt, alloc, &mut server, client, AGAIN, NOTHING)
+    hoard(rt, alloc, server, client, asks, ROOT)?;
+    hoard(rt, alloc, server, client, AGAIN, NOTHING)?;
+    assert_eq!(rt; client.held().rows().len(), 1);
+    assert_eq!(rt; client.records(), records);
+    Ok(())
+}
+
+/// The same on the client's disk. Gives it back.
+fn hoards_on<S: Disk, C: Disk + Drop>(
+    rt: &impl Abort,
+    alloc: Global,
+    server: &mut Server<S>,
+    client: C,
+    asks: &[u8],
+    records: u64,
+) -> Result<C, Fail>
+    requires { IsSynced S.medium server.old }
+{
+    let mut client = client_on(alloc, client)?;
+    hoard_twice(rt, alloc, server, &mut client, asks, records)?;
+    Ok(client.into_disk())
+}
+
+/// The same at a server that starts from an empty disk.
+fn hoards(
+    rt: &impl Abort,
+    alloc: Global,
+    client: MemDisk,
+    asks: &[u8],
+    records: u64,
+) -> Result<MemDisk, Fail> {
+    let mut server = started(alloc, MemDisk::new(alloc))?;
+    hoards_on(rt, alloc, &mut server, client, asks, records)
 }
 
 #[test]
 fn what_is_known_does_not_come_again(rt: HostRuntime) -> Result<(), Fail> {
     let alloc = rt.alloc();
-    let mut client = client_on(alloc, MemDisk::new(alloc))?;
-    hoard_twice(&rt, alloc, &mut client, FIRST)?;
+    let disk = hoards(&rt, alloc, MemDisk::new(alloc), FIRST, 2)?;
 
     // What is held has not changed, and its record was appended again.
-    assert_eq!(rt; client.held().rows().len(), 1);
-    assert_eq!(rt; client.records(), 2);
     let twice = recorded(alloc, TWICE, None)?;
-    assert_eq!(rt; client.into_disk().bytes(), twice.as_slice());
+    assert_eq!(rt; disk.bytes(), twice.as_slice());
     Ok(())
 }
 
@@ -138,9 +156,7 @@ fn what_is_known_does_not_come_again(rt: HostRuntime) -> Result<(), Fail> {
 fn no_stamp_is_known_after_a_restart(rt: HostRuntime) -> Result<(), Fail> {
     let alloc = rt.alloc();
     let disk = MemDisk::of(alloc, recorded(alloc, TWICE, None)?)?;
-    let mut client = client_on(alloc, disk)?;
-    hoard_twice(&rt, alloc, &mut client, RESTARTED)?;
-    assert_eq!(rt; client.records(), 4);
+    hoards(&rt, alloc, disk, RESTARTED, 4)?;
     Ok(())
 }
 
@@ -184,12 +200,24 @@ fn refuses_what_makes_no_tree<S: Disk, C: Disk>(
     Ok(())
 }
 
+/// The same of the client that starts from this disk.
+fn refuses_on<S: Disk, C: Disk + Drop>(
+    rt: &impl Abort,
+    alloc: Global,
+    server: &mut Server<S>,
+    client: C,
+) -> Result<(), Fail>
+    requires { IsSynced S.medium server.old }
+{
+    let mut client = client_on(alloc, client)?;
+    refuses_what_makes_no_tree(rt, alloc, server, &mut client)
+}
+
 #[test]
 fn what_makes_no_tree_is_bad_at_its_end(rt: HostRuntime) -> Result<(), Fail> {
     let alloc = rt.alloc();
-    let mut server = new_server(alloc)?;
-    let mut client = client_on(alloc, MemDisk::new(alloc))?;
-    refuses_what_makes_no_tree(&rt, alloc, &mut server, &mut client)
+    let mut server = started(alloc, MemDisk::new(alloc))?;
+    refuses_on(&rt, alloc, &mut server, MemDisk::new(alloc))
 }
 
 /// Whether the first transaction that waits, if one does, is in conflict, and is to be run again.
@@ -218,14 +246,24 @@ fn refuses_to_resolve<D: Disk>(
 ) -> Result<(), Fail>
     requires { IsTied D.medium client.old }
 {
-    if !is_planned(client) {
-        return Err(Fail::new("nothing is to be run again"));
-    }
+    assert!(rt; is_planned(client));
     let script = Rc::new(alloc, parse(alloc, b"mkdir /d\n")?)?;
     let refused = client.resolve(alloc, reply, script);
     assert!(rt; matches!(refused, Err(ClientFault::BadReply { at: place }) if place == at));
     assert_eq!(rt; client.records(), 3);
     Ok(())
+}
+
+/// The same of the client that starts from this disk.
+fn refuses_to_resolve_on<D: Disk + Drop>(
+    rt: &impl Abort,
+    alloc: Global,
+    disk: D,
+    reply: &[u8],
+    at: u64,
+) -> Result<(), Fail> {
+    let mut client = client_on(alloc, disk)?;
+    refuses_to_resolve(rt, alloc, &mut client, reply, at)
 }
 
 #[test]
@@ -237,8 +275,7 @@ fn a_resolution_needs_a_whole_tree(rt: HostRuntime) -> Result<(), Fail> {
         (b"\x01", 1),
     ] {
         let disk = MemDisk::of(alloc, recorded(alloc, CONFLICT, None)?)?;
-        let mut client = client_on(alloc, disk)?;
-        refuses_to_resolve(&rt, alloc, &mut client, reply, at)?;
+        refuses_to_resolve_on(&rt, alloc, disk, reply, at)?;
     }
     Ok(())
 }

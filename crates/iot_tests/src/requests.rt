@@ -80,7 +80,7 @@ fn started_on_both<D: Disk + Drop>(
 }
 
 /// The server answers the request with this reply.
-fn answers<D: Disk>(
+pub(crate) fn answers<D: Disk>(
     rt: &impl Abort,
     alloc: Global,
     server: &mut Server<D>,
@@ -122,25 +122,57 @@ fn each_request_has_its_reply(rt: HostRuntime) -> Result<(), Fail> {
     answers_each(&rt, alloc, &mut server)
 }
 
+/// The disk of a server that has answered the request so.
+fn answered<D: Disk + Drop>(
+    rt: &impl Abort,
+    alloc: Global,
+    disk: D,
+    request: &[u8],
+    reply: &[u8],
+) -> Result<D, Fail> {
+    let mut server = started(alloc, disk)?;
+    answers(rt, alloc, &mut server, request, reply)?;
+    Ok(server.into_disks().0)
+}
+
 #[test]
 fn a_restart_counts_requests_anew(rt: HostRuntime) -> Result<(), Fail> {
     let alloc = rt.alloc();
-    let mut server = started(alloc, MemDisk::new(alloc))?;
-    answers(&rt, alloc, &mut server, COMMIT, COMMITTED)?;
-    let server = started(alloc, server.into_disks().0)?;
+    let disk = answered(&rt, alloc, MemDisk::new(alloc), COMMIT, COMMITTED)?;
+    let server = started(alloc, disk)?;
     assert_eq!(rt; server.store().number(), 1);
     assert_eq!(rt; server.traffic().requests, 0);
     Ok(())
 }
 
-/// The server's disk fails at this call of the commit. The server starts again, and is asked again.
-fn stops_in_a_commit(rt: &impl Abort, alloc: Global, calls: u64, pick: Pick) -> Result<(), Fail> {
-    let mut server = started(alloc, MemDisk::new(alloc))?;
+/// A server's disk fails at this call of a commit. The server starts again.
+pub(crate) fn stopped_in<D: Disk + Drop>(
+    rt: &impl Abort,
+    alloc: Global,
+    disk: D,
+    commit: &[u8],
+    calls: u64,
+    pick: Pick,
+) -> Result<Server<D>, StartFault>
+    ensures { IfOk result (λ server. IsSynced D.medium server) }
+{
+    let mut server = started(alloc, disk)?;
     server.arm(false, calls, pick);
-    let stopped = server.handle(alloc, COMMIT);
+    let stopped = server.handle(alloc, commit);
     assert!(rt; matches!(stopped, Err(ServerFault::Stopped)));
+    started(alloc, server.into_disks().0)
+}
+
+/// The server's disk fails at this call of the commit. The server starts again, and is asked again.
+fn stops_in_a_commit<D: Disk + Drop>(
+    rt: &impl Abort,
+    alloc: Global,
+    disk: D,
+    calls: u64,
+    pick: Pick,
+) -> Result<(), Fail> {
+    let mut server = stopped_in(rt, alloc, disk, COMMIT, calls, pick)?;
     let kept = calls > 2 && pick != Pick::Old;
-    let mut server = started(alloc, server.into_disks().0)?;
     assert_eq!(rt; server.store().number(), u64::from(kept), "call {calls}");
     let reply = if kept { ALREADY } else { COMMITTED };
     answers(rt, alloc, &mut server, COMMIT, reply)
@@ -151,7 +183,7 @@ fn a_commit_is_kept_or_lost(rt: HostRuntime) -> Result<(), Fail> {
     let alloc = rt.alloc();
     for calls in 1..5 {
         for pick in [Pick::Old, Pick::New, Pick::Fill(165)] {
-            stops_in_a_commit(&rt, alloc, calls, pick)?;
+            stops_in_a_commit(&rt, alloc, MemDisk::new(alloc), calls, pick)?;
         }
     }
     Ok(())
@@ -178,21 +210,37 @@ fn fails_in<D: Disk + Drop>(
 
 /// The backup fails at this call of the commit. The first disk has the record then, and a start from both disks brings the backup up. So
 /// the server goes on from the backup alone.
-fn stops_on_the_backup(rt: &impl Abort, alloc: Global, calls: u64, pick: Pick) -> Result<(), Fail> {
-    let mut server = started_on_both(alloc, MemDisk::new(alloc), MemDisk::new(alloc))?;
+fn stops_on_the_backup<D: Disk + Drop>(
+    rt: &impl Abort,
+    alloc: Global,
+    mut server: Server<D>,
+    calls: u64,
+    pick: Pick,
+) -> Result<(), Fail>
+    requires synced { IsSynced D.medium server }
+    requires pair { IsThere (second_of server) }
+{
     server.arm(true, calls, pick);
     let server = fails_in(alloc, server, COMMIT)?;
     assert_eq!(rt; server.store().number(), 1);
     let (_first, backup) = server.into_disks();
-    let mut server = started(alloc, backup.ok_or("there is no backup")?)?;
-    answers(rt, alloc, &mut server, COMMIT, ALREADY)
+    answered(
+        rt,
+        alloc,
+        backup.ok_or("there is no backup")?,
+        COMMIT,
+        ALREADY,
+    )?;
+    Ok(())
 }
 
 #[test]
 fn a_commit_goes_on_from_the_backup(rt: HostRuntime) -> Result<(), Fail> {
+    let alloc = rt.alloc();
     for calls in 1..5 {
         for pick in [Pick::Old, Pick::New, Pick::Fill(165)] {
-            stops_on_the_backup(&rt, rt.alloc(), calls, pick)?;
+            let server = started_on_both(alloc, MemDisk::new(alloc), MemDisk::new(alloc))?;
+            stops_on_the_backup(&rt, alloc, server, calls, pick)?;
         }
     }
     Ok(())

@@ -6,11 +6,12 @@ ghost use Rattle.iot_slots.specs.Slots.{IsSynced, layout_of, state_on};
 use iot_disk::{Disk, JournalFault, MemDisk, Pick, StartFault};
 use iot_slots::{Slots, Started};
 use std::alloc::Global;
+use std::process::Abort;
 use std::test::Fail;
 
-const HEADER: [u8; 8] = *b"IOTSLOT1";
+pub(crate) const HEADER: [u8; 8] = *b"IOTSLOT1";
 
-const PICKS: [Pick; 3] = [Pick::Old, Pick::New, Pick::Fill(165)];
+pub(crate) const PICKS: [Pick; 3] = [Pick::Old, Pick::New, Pick::Fill(165)];
 
 /// A disk that was started with the body "ab".
 const FRESH: [u8; 62] =
@@ -28,7 +29,10 @@ fn restarted<D: Disk + Drop>(alloc: Global, mut disk: D) -> Result<(Slots<D>, St
 }
 
 /// The length of the body, the number of records and the count that a start after a restart finds.
-fn found(alloc: Global, mut disk: MemDisk) -> Result<(usize, usize, u64), StartFault> {
+pub(crate) fn found<D: Disk + Drop>(
+    alloc: Global,
+    mut disk: D,
+) -> Result<(usize, usize, u64), StartFault> {
     disk.restart();
     match Slots::start(alloc, disk, HEADER) {
         Ok((slots, started)) => {
@@ -49,19 +53,30 @@ fn stopped<D: Disk + Drop>(alloc: Global, mut disk: D, calls: u64, pick: Pick) -
     }
 }
 
+/// A start stops at this call, and the next one at that call, if it comes. One that does not stop makes up for both.
+fn stops_twice(
+    rt: &impl Abort,
+    alloc: Global,
+    calls: u64,
+    again: u64,
+    pick: Pick,
+) -> Result<(), StartFault> {
+    let (disk, started) = stopped(alloc, MemDisk::new(alloc), calls, pick);
+    assert_eq!(rt; started, calls == 0);
+    let (disk, _) = stopped(alloc, disk, again, pick);
+    // A call that was armed and has not come would stay armed.
+    let (disk, _) = stopped(alloc, disk, 1, pick);
+    let (slots, _) = restarted(alloc, disk)?;
+    assert_eq!(rt; slots.into_disk().bytes(), FRESH.as_slice(), "call {calls}");
+    Ok(())
+}
+
 #[test]
 fn a_start_can_stop_and_start_again(rt: HostRuntime) -> Result<(), Fail> {
-    let alloc = rt.alloc();
     for calls in 0..9 {
         for again in 0..10 {
             for pick in PICKS {
-                let (disk, started) = stopped(alloc, MemDisk::new(alloc), calls, pick);
-                assert_eq!(rt; started, calls == 0);
-                let (disk, _) = stopped(alloc, disk, again, pick);
-                // A call that was armed and has not come would stay armed.
-                let (disk, _) = stopped(alloc, disk, 1, pick);
-                let (slots, _) = restarted(alloc, disk)?;
-                assert_eq!(rt; slots.into_disk().bytes(), FRESH.as_slice(), "call {calls}");
+                stops_twice(&rt, rt.alloc(), calls, again, pick)?;
             }
         }
     }
@@ -105,33 +120,26 @@ fn make_room<D: Disk>(slots: &mut Slots<D>, size: u64) -> Result<u64, JournalFau
     Ok(2)
 }
 
-/// Appends 300 records of this body, and gives the disk, the count and the number of checkpoints.
-fn fill<D: Disk + Drop>(
-    alloc: Global,
-    disk: D,
-    body: &[u8],
-) -> Result<(D, u64, u64), JournalFault> {
-    let (mut slots, started) = match restarted(alloc, disk) {
-        Ok(made) => made,
-        Err(_) => return Err(JournalFault::NoMemory),
-    };
-    drop(started);
+/// Appends 300 records of this body, and gives the number of checkpoints.
+fn fill<D: Disk>(slots: &mut Slots<D>, body: &[u8]) -> Result<u64, JournalFault>
+    requires { IsSynced D.medium slots.old }
+{
     let mut checkpoints = 0u64;
     for _i in 0..300u32 {
-        checkpoints = checkpoints.wrapping_add(make_room(&mut slots, body.len() as u64)?);
+        checkpoints = checkpoints.wrapping_add(make_room(slots, body.len() as u64)?);
         slots.append(body)?;
     }
-    let count = slots.count();
-    Ok((slots.into_disk(), count, checkpoints))
+    Ok(checkpoints)
 }
 
 #[test]
 fn three_hundred_records_take_checkpoints(rt: HostRuntime) -> Result<(), Fail> {
     let alloc = rt.alloc();
     let body = vec![in alloc; 7; 8192]?;
-    let (disk, count, checkpoints) = fill(alloc, MemDisk::new(alloc), &body)?;
-    assert_eq!(rt; (count, checkpoints), (300, 2));
+    let (mut slots, _) = restarted(alloc, MemDisk::new(alloc))?;
+    assert_eq!(rt; fill(&mut slots, &body)?, 2);
+    assert_eq!(rt; slots.count(), 300);
     // 128 records are before each checkpoint, whose body has four bytes.
-    assert_eq!(rt; found(alloc, disk)?, (4, 300 - 2 * 128, 300));
+    assert_eq!(rt; found(alloc, slots.into_disk())?, (4, 300 - 2 * 128, 300));
     Ok(())
 }

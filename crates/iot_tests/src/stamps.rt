@@ -1,5 +1,5 @@
 //! Refreshes by difference.
-use crate::fixtures::{path, tree};
+use crate::fixtures::{letter, path, tree};
 use iot_held::{Held, MergeFault};
 use iot_stamp::Stamped;
 use iot_text::{NoMemory, Path, Text};
@@ -7,16 +7,11 @@ use iot_tree::{Changes, Node, Paths, StampedRows, Update, Want};
 use std::alloc::Global;
 use std::process::Abort;
 
-/// Each row by a letter, in capitals if it is far, its path and its stamp; then the paths that are gone.
+/// Each row by its letter, its path and its stamp; then the paths that are gone.
 fn spelled(alloc: Global, changes: &Changes) -> Result<Text, NoMemory> {
     let mut text = Text::new(alloc);
     for (path, (node, stamp)) in changes.rows.as_slice() {
-        text.push(match node {
-            Node::Dir => b'd',
-            Node::File(..) => b'f',
-            Node::FarDir => b'D',
-            Node::FarFile(_) => b'F',
-        })?;
+        text.push(letter(node))?;
         path.write_to(&mut text)?;
         text.append_number(*stamp)?;
     }

@@ -37,23 +37,28 @@ fn the_inside_of_a_far_object_is_away(rt: HostRuntime) -> Result<(), Fail> {
     Ok(())
 }
 
-#[test]
-fn a_copy_stays_as_it_was(rt: HostRuntime) -> Result<(), NoMemory> {
-    let alloc = rt.alloc();
-    let before = tree(&rt, alloc, "mkdir /d\nwrite /d/n 1\n")?;
-    let file = path(&rt, alloc, "/d/n");
+/// What the tree answers of the file `/d/n` and of the directory above it.
+fn reads_of(rt: &impl Abort, alloc: Global, before: &Tree) -> Result<Reads, NoMemory> {
     let asked = [
-        Question::Kind(file.copy(alloc)?),
-        Question::Content(file.copy(alloc)?),
-        Question::Names(path(&rt, alloc, "/d")),
+        Question::Kind(path(rt, alloc, "/d/n")),
+        Question::Content(path(rt, alloc, "/d/n")),
+        Question::Names(path(rt, alloc, "/d")),
     ];
     let mut reads = Reads::new(alloc);
     for question in asked {
         let answer = before.answer(alloc, &question)?;
         reads.push(Read { question, answer })?;
     }
+    Ok(reads)
+}
+
+#[test]
+fn a_copy_stays_as_it_was(rt: HostRuntime) -> Result<(), NoMemory> {
+    let alloc = rt.alloc();
+    let before = tree(&rt, alloc, "mkdir /d\nwrite /d/n 1\n")?;
+    let reads = reads_of(&rt, alloc, &before)?;
     let mut after = before.copy(alloc)?;
-    let update = Update::Remove(file);
+    let update = Update::Remove(path(&rt, alloc, "/d/n"));
     assert!(rt; after.fits(&update));
     after.apply(alloc, &update)?;
     for read in reads.as_slice() {

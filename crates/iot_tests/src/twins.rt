@@ -7,27 +7,12 @@ ghost use Rattle.iot_slots.specs.Slots.{disk_of, header_of};
 ghost use Rattle.iot_backup.specs.Start.{MayBeBehind};
 ghost use Rattle.iot_backup.specs.Twin.{IsSynced, first_of, second_of};
 
+use crate::slots::{HEADER, PICKS, found};
 use iot_backup::{Twin, TwinFault};
 use iot_disk::{Disk, JournalFault, MemDisk, Pick, StartFault};
-use iot_slots::Slots;
 use std::alloc::Global;
+use std::process::Abort;
 use std::test::Fail;
-
-const HEADER: [u8; 8] = *b"IOTSLOT1";
-
-const PICKS: [Pick; 3] = [Pick::Old, Pick::New, Pick::Fill(165)];
-
-/// The length of a disk's body, the number of its records, and how many were ever appended to it.
-fn found(alloc: Global, mut disk: MemDisk) -> Result<(usize, usize, u64), StartFault> {
-    disk.restart();
-    match Slots::start(alloc, disk, HEADER) {
-        Ok((slots, started)) => {
-            let records = started.records.len();
-            Ok((started.body.into_vec().len(), records, slots.count()))
-        }
-        Err((_, fault)) => Err(fault),
-    }
-}
 
 /// A twin over two disks.
 fn started<D: Disk + Drop>(
@@ -125,17 +110,32 @@ fn each_disk_has_checkpoints_of_its_own(rt: HostRuntime) -> Result<(), Fail> {
     Ok(())
 }
 
+/// The second disk fails at this call of an append, whose record both have after a start that makes up for it.
+fn stops_on_the_second(rt: &impl Abort, alloc: Global, calls: u64, pick: Pick) -> Result<(), Fail> {
+    let mut twin = started(alloc, MemDisk::new(alloc), MemDisk::new(alloc), HEADER)?;
+    twin.arm(true, calls, pick);
+    let disks = made_up(alloc, twin, HEADER)?;
+    assert_eq!(rt; both(alloc, disks)?, [(2, 1, 1), (2, 1, 1)], "call {calls}");
+    Ok(())
+}
+
 #[test]
 fn a_stop_on_the_second_disk_loses_nothing(rt: HostRuntime) -> Result<(), Fail> {
     let alloc = rt.alloc();
     for calls in 1..5 {
         for pick in PICKS {
-            let mut twin = started(alloc, MemDisk::new(alloc), MemDisk::new(alloc), HEADER)?;
-            twin.arm(true, calls, pick);
-            let disks = made_up(alloc, twin, HEADER)?;
-            assert_eq!(rt; both(alloc, disks)?, [(2, 1, 1), (2, 1, 1)], "call {calls}");
+            stops_on_the_second(&rt, alloc, calls, pick)?;
         }
     }
+    Ok(())
+}
+
+/// The first disk fails at this call of an append, and both are alike after a start that makes up for it.
+fn stops_on_the_first(rt: &impl Abort, alloc: Global, calls: u64, pick: Pick) -> Result<(), Fail> {
+    let mut twin = started(alloc, MemDisk::new(alloc), MemDisk::new(alloc), HEADER)?;
+    twin.arm(false, calls, pick);
+    let [first, second] = both(alloc, made_up(alloc, twin, HEADER)?)?;
+    assert_eq!(rt; first, second, "call {calls}");
     Ok(())
 }
 
@@ -144,24 +144,14 @@ fn a_stop_on_the_first_disk_leaves_both_alike(rt: HostRuntime) -> Result<(), Fai
     let alloc = rt.alloc();
     for calls in 1..5 {
         for pick in PICKS {
-            let mut twin = started(alloc, MemDisk::new(alloc), MemDisk::new(alloc), HEADER)?;
-            twin.arm(false, calls, pick);
-            let [first, second] = both(alloc, made_up(alloc, twin, HEADER)?)?;
-            assert_eq!(rt; first, second, "call {calls}");
+            stops_on_the_first(&rt, alloc, calls, pick)?;
         }
     }
     Ok(())
 }
 
-#[test]
-fn the_second_disk_goes_on_alone(rt: HostRuntime) -> Result<(), Fail> {
-    let alloc = rt.alloc();
-    let mut twin = started(alloc, MemDisk::new(alloc), MemDisk::new(alloc), HEADER)?;
-    append(&mut twin, b"new")?;
-    let (_first, second) = twin.into_disks();
-    let Some(mut second) = second else {
-        return Err(Fail::from(StartFault::NoMemory));
-    };
+/// A disk goes on alone, and takes one more record.
+fn goes_on_alone<D: Disk + Drop>(rt: &impl Abort, alloc: Global, mut second: D) -> Result<D, Fail> {
     second.restart();
     let mut alone = match Twin::alone(alloc, second, HEADER, b"ab") {
         Ok((alone, _)) => alone,
@@ -170,6 +160,21 @@ fn the_second_disk_goes_on_alone(rt: HostRuntime) -> Result<(), Fail> {
     append(&mut alone, b"newer")?;
     let (disk, second) = alone.into_disks();
     assert!(rt; second.is_none());
+    Ok(disk)
+}
+
+/// The second of two disks with a record.
+fn second_disk(alloc: Global) -> Result<MemDisk, Fail> {
+    let mut twin = started(alloc, MemDisk::new(alloc), MemDisk::new(alloc), HEADER)?;
+    append(&mut twin, b"new")?;
+    let (_first, second) = twin.into_disks();
+    Ok(second.ok_or("there is no second disk")?)
+}
+
+#[test]
+fn the_second_disk_goes_on_alone(rt: HostRuntime) -> Result<(), Fail> {
+    let alloc = rt.alloc();
+    let disk = goes_on_alone(&rt, alloc, second_disk(alloc)?)?;
     assert_eq!(rt; found(alloc, disk)?, (2, 2, 2));
     Ok(())
 }

@@ -1,10 +1,10 @@
 //! Disks of version 1, byte by byte: what they stand for, and what the first change makes of them.
 
 use crate::fixtures::recorded;
-use crate::requests::started;
-use iot_client::Client;
+use crate::refreshes::client_on;
+use crate::requests::{answers, started, stopped_in};
 use iot_disk::{Disk, MemDisk, Pick};
-use iot_server::{ServerFault, StartFault};
+use iot_server::StartFault;
 use iot_store::{ImageFault, Store};
 use iot_text::Path;
 use std::alloc::Global;
@@ -71,9 +71,9 @@ const ASKS_A_MODE: [u8; 204] = *b"\xa5IOTSLOT1\xa5\0\0\0\0\0\0\0\x01\x80\0\0\0\0
 #[test]
 fn an_old_disk_stands_for_a_state_and_is_only_read(rt: HostRuntime) -> Result<(), Fail> {
     let alloc = rt.alloc();
+    let path = Path::parse(alloc, b"/f")?;
     let server = started(alloc, MemDisk::of(alloc, OLD.to_vec(alloc)?)?)?;
     assert_eq!(rt; server.store().number(), 2);
-    let path = Path::parse(alloc, b"/f")?;
     assert_eq!(rt;
         server.store().tree().content(&path),
         Some(b"hi".as_slice())
@@ -83,27 +83,23 @@ fn an_old_disk_stands_for_a_state_and_is_only_read(rt: HostRuntime) -> Result<()
 }
 
 /// The disk fails at this call of the first commit on it. The server starts again, and is asked again.
-fn stops_in_the_first_commit(
+fn stops_in_the_first_commit<D: Disk + Drop>(
     rt: &impl Abort,
     alloc: Global,
+    disk: D,
     calls: u64,
     pick: Pick,
 ) -> Result<(), Fail> {
-    let mut server = started(alloc, MemDisk::of(alloc, OLD.to_vec(alloc)?)?)?;
-    server.arm(false, calls, pick);
-    let stopped = server.handle(alloc, THIRD);
-    assert!(rt; matches!(stopped, Err(ServerFault::Stopped)));
+    let mut server = stopped_in(rt, alloc, disk, THIRD, calls, pick)?;
     // Seven calls are of the checkpoint, and two more come before the gate of the record.
     let kept = calls > 9 && pick != Pick::Old;
-    let mut server = started(alloc, server.into_disks().0)?;
     assert_eq!(rt;
         server.store().number(),
         2 + u64::from(kept),
         "call {calls}"
     );
     let reply = if kept { ALREADY } else { COMMITTED };
-    assert_eq!(rt; server.handle(alloc, THIRD)?.as_slice(), reply);
-    Ok(())
+    answers(rt, alloc, &mut server, THIRD, reply)
 }
 
 #[test]
@@ -111,7 +107,8 @@ fn the_first_commit_on_it_is_kept_or_lost(rt: HostRuntime) -> Result<(), Fail> {
     let alloc = rt.alloc();
     for calls in 1..12 {
         for pick in [Pick::Old, Pick::New, Pick::Fill(165)] {
-            stops_in_the_first_commit(&rt, alloc, calls, pick)?;
+            let disk = MemDisk::of(alloc, OLD.to_vec(alloc)?)?;
+            stops_in_the_first_commit(&rt, alloc, disk, calls, pick)?;
         }
     }
     Ok(())
@@ -121,7 +118,7 @@ fn the_first_commit_on_it_is_kept_or_lost(rt: HostRuntime) -> Result<(), Fail> {
 fn after_it_the_disk_is_of_version_2(rt: HostRuntime) -> Result<(), Fail> {
     let alloc = rt.alloc();
     let mut server = started(alloc, MemDisk::of(alloc, OLD.to_vec(alloc)?)?)?;
-    assert_eq!(rt; server.handle(alloc, THIRD)?.as_slice(), COMMITTED);
+    answers(&rt, alloc, &mut server, THIRD, COMMITTED)?;
     let disk = server.into_disks().0;
     // Cell 1 is in force, and names the end of the old disk.
     assert_eq!(rt;
@@ -144,16 +141,27 @@ fn an_upgrade_keeps_the_state_and_the_count(rt: HostRuntime) -> Result<(), Fail>
     Ok(())
 }
 
+/// The number of commits of a server that starts from these bytes.
+fn commits_in(alloc: Global, bytes: Vec<u8>) -> Result<u64, StartFault> {
+    let server = started(alloc, MemDisk::of(alloc, bytes)?)?;
+    Ok(server.store().number())
+}
+
 #[test]
 fn version_1_knows_no_modes(rt: HostRuntime) -> Result<(), Fail> {
     let alloc = rt.alloc();
     for (mark, want) in [(0x80, Ok(1)), (0, Err(StartFault::Damaged { at: 100 }))] {
         let mut bytes = ASKS_A_MODE;
         bytes[18] = mark;
-        let found = started(alloc, MemDisk::of(alloc, bytes.to_vec(alloc)?)?);
-        assert_eq!(rt; found.map(|server| server.store().number()), want);
+        assert_eq!(rt; commits_in(alloc, bytes.to_vec(alloc)?), want);
     }
     Ok(())
+}
+
+/// The number of records of a client that starts from these bytes.
+fn records_in(alloc: Global, bytes: Vec<u8>) -> Result<u64, StartFault> {
+    let client = client_on(alloc, MemDisk::of(alloc, bytes)?)?;
+    Ok(client.records())
 }
 
 #[test]
@@ -169,13 +177,7 @@ fn a_client_has_version_2_alone(rt: HostRuntime) -> Result<(), Fail> {
         if let Some(old) = bytes.get_mut(at) {
             *old = byte;
         }
-        let mut disk = MemDisk::of(alloc, bytes)?;
-        disk.restart();
-        let found = match Client::start(alloc, disk, 0) {
-            Ok(client) => Ok(client.records()),
-            Err((_disk, fault)) => Err(fault),
-        };
-        assert_eq!(rt; found, want);
+        assert_eq!(rt; records_in(alloc, bytes), want);
     }
     Ok(())
 }
