@@ -1,7 +1,8 @@
 //! Audits: what is written of an input, which is an event script and an image of a server's disk.
-use crate::fixtures::{NONE, ran};
+use crate::fixtures::{NONE, ends, ran};
 use crate::jobs::STARTED;
 use std::alloc::{AllocError, Global};
+use std::process::Abort;
 use std::test::Fail;
 
 /// Two transactions, the first of which prints a line.
@@ -31,6 +32,20 @@ fn input_of(alloc: Global, script: &[u8], image: &[u8]) -> Result<Vec<u8>, Alloc
     Ok(input)
 }
 
+/// The audit of this script and this image ends with this status, and says this.
+fn finds(
+    rt: &impl Abort,
+    alloc: Global,
+    script: &[u8],
+    image: &[u8],
+    status: u8,
+    output: &[u8],
+) -> Result<(), Fail> {
+    let input = input_of(alloc, script, image)?;
+    ends(rt, alloc, &["--audit"], &input, NONE, status, output)?;
+    Ok(())
+}
+
 #[test]
 fn an_image_is_audited_against_each_script(rt: HostRuntime) -> Result<(), Fail> {
     let (_, image) = ran(rt.alloc(), LIVED, &["--save"], NONE)?;
@@ -43,10 +58,7 @@ fn an_image_is_audited_against_each_script(rt: HostRuntime) -> Result<(), Fail> 
         (b"client laptop\nsteps\n", 1, b"line 2: bad line\n"),
     ];
     for (script, status, output) in scripts {
-        let input = input_of(rt.alloc(), script, &image)?;
-        let (ended, written) = ran(rt.alloc(), &input, &["--audit"], NONE)?;
-        assert_eq!(rt; ended.status, status);
-        assert_eq!(rt; written.as_slice(), output);
+        finds(&rt, rt.alloc(), script, &image, status, output)?;
     }
     Ok(())
 }
@@ -60,10 +72,7 @@ fn an_image_that_is_none_is_refused(rt: HostRuntime) -> Result<(), Fail> {
         (&STARTED[..43], 1, b"audit: damaged at 9\n"),
     ];
     for (image, status, output) in images {
-        let input = input_of(rt.alloc(), b"", image)?;
-        let (ended, written) = ran(rt.alloc(), &input, &["--audit"], NONE)?;
-        assert_eq!(rt; ended.status, status);
-        assert_eq!(rt; written.as_slice(), output);
+        finds(&rt, rt.alloc(), b"", image, status, output)?;
     }
     Ok(())
 }
@@ -78,9 +87,7 @@ fn an_input_without_its_parts_is_refused(rt: HostRuntime) -> Result<(), Fail> {
         (b"\0\0\0\0\0\x40\0\x01\n", b"input too long\n"),
     ];
     for (input, output) in inputs {
-        let (ended, written) = ran(rt.alloc(), input, &["--audit"], NONE)?;
-        assert_eq!(rt; ended.status, 1);
-        assert_eq!(rt; written.as_slice(), output);
+        ends(&rt, rt.alloc(), &["--audit"], input, NONE, 1, output)?;
     }
     Ok(())
 }

@@ -1,5 +1,6 @@
 //! Runs whose server stops in a commit, on its own disk or on its backup's, and comes back by a restart or a promotion.
-use crate::fixtures::{NONE, joined, ran, store_on};
+use crate::fixtures::{NONE, joined, ran, says, store_on};
+use iot_disk::MemDisk;
 use std::alloc::Global;
 use std::process::Abort;
 use std::test::Fail;
@@ -22,6 +23,30 @@ const KEPT: &[u8] = b" kept\ncommit 2 laptop.2 certified\nconnect laptop\nsettle
 
 const LOST: &[u8] = b" lost\nconnect laptop\ncommit 2 laptop.2 certified\nsettled laptop.2 2\n";
 
+/// The disks of a run whose server stops at this event, comes back by that one, and says whether it kept the commit.
+fn disks_after(
+    rt: &impl Abort,
+    alloc: Global,
+    stop: &[u8],
+    event: &[u8],
+    kept: bool,
+) -> Result<Vec<MemDisk>, Fail> {
+    let rest = b"\nconnect laptop\nsync laptop\n";
+    let input = joined(alloc, &[BEFORE, stop, b"\nend laptop\n", event, rest])?;
+    let end = if kept { KEPT } else { LOST };
+    says(
+        rt,
+        alloc,
+        &input,
+        &joined(alloc, &[SAID, stop, STOPPED, event, end])?,
+    )
+}
+
+/// How many commits a server has that starts from this disk.
+fn commits_on(alloc: Global, disk: Option<MemDisk>) -> Result<u64, Fail> {
+    Ok(store_on(alloc, disk)?.number())
+}
+
 /// The server stops at this event, comes back by that one, and says whether it kept the commit. Either way it has both commits in the end,
 /// and so has its backup, unless that was promoted.
 fn comes_back(
@@ -31,18 +56,10 @@ fn comes_back(
     event: &[u8],
     kept: bool,
 ) -> Result<(), Fail> {
-    let rest = b"\nconnect laptop\nsync laptop\n";
-    let input = joined(alloc, &[BEFORE, stop, b"\nend laptop\n", event, rest])?;
-    let (ended, written) = ran(alloc, &input, &[], NONE)?;
-    assert_eq!(rt; ended.status, 0);
-    let end = if kept { KEPT } else { LOST };
-    let says = joined(alloc, &[SAID, stop, STOPPED, event, end])?;
-    assert_eq!(rt; written.as_slice(), says.as_slice());
-    let mut disks = ended.disks.into_iter();
-    let first = store_on(alloc, disks.next())?;
-    assert!(rt; event == b"promote".as_slice() || first.number() == 2);
-    let last = store_on(alloc, disks.nth(8))?;
-    assert_eq!(rt; last.number(), 2);
+    let mut disks = disks_after(rt, alloc, stop, event, kept)?.into_iter();
+    let first = commits_on(alloc, disks.next())?;
+    assert!(rt; event == b"promote".as_slice() || first == 2);
+    assert_eq!(rt; commits_on(alloc, disks.nth(8))?, 2);
     Ok(())
 }
 
@@ -105,15 +122,23 @@ const ANSWERED: &[u8] = b"up\ncrash server\npromote\nup\ncrash server\nnothing\n
 
 #[test]
 fn a_promotion_is_done_once(rt: HostRuntime) -> Result<(), Fail> {
-    let (ended, written) = ran(rt.alloc(), PROMOTED, &[], NONE)?;
-    assert_eq!(rt; ended.status, 0);
-    assert_eq!(rt; written.as_slice(), ANSWERED);
+    says(&rt, rt.alloc(), PROMOTED, ANSWERED)?;
     Ok(())
 }
 
 /// A commit, before or after the server has come back from its backup.
 const COMMITS: &[u8] =
     b"client laptop\nscript one {\nwrite /n 1\n}\nhoard laptop /\nrun laptop one abort\n";
+
+/// What is saved of this run is the disk at this place.
+fn saves(rt: &impl Abort, alloc: Global, input: &[u8], place: usize) -> Result<(), Fail> {
+    let (ended, written) = ran(alloc, input, &["--save"], NONE)?;
+    assert_eq!(rt; ended.status, 0);
+    assert!(rt; !written.is_empty());
+    let disk = ended.disks.get(place).ok_or("a disk")?;
+    assert_eq!(rt; written.as_slice(), disk.bytes());
+    Ok(())
+}
 
 #[test]
 fn the_disk_of_the_end_is_saved(rt: HostRuntime) -> Result<(), Fail> {
@@ -125,12 +150,7 @@ fn the_disk_of_the_end_is_saved(rt: HostRuntime) -> Result<(), Fail> {
         ([promotes, COMMITS], 9),
     ];
     for (texts, place) in cases {
-        let input = joined(alloc, &texts)?;
-        let (ended, written) = ran(alloc, &input, &["--save"], NONE)?;
-        assert_eq!(rt; ended.status, 0);
-        let disk = ended.disks.get(place).ok_or("a disk")?;
-        assert_eq!(rt; written.as_slice(), disk.bytes());
-        assert!(rt; !written.is_empty());
+        saves(&rt, alloc, &joined(alloc, &texts)?, place)?;
     }
     Ok(())
 }

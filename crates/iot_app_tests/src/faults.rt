@@ -1,8 +1,6 @@
 //! Runs whose source or sink fails at each of their calls in turn: how they end, and what they have written by then.
-use crate::fixtures::{Failing, NONE, joined, ran};
+use crate::fixtures::{Failing, NONE, ends, joined};
 use crate::jobs::{NOTHING, STARTED, USAGE};
-use std::alloc::Global;
-use std::process::Abort;
 use std::test::Fail;
 
 /// A transaction, and the server's tree.
@@ -50,22 +48,6 @@ const CASES: [(&[&str], &[u8], u64, &[&[u8]], u8); 5] = [
     (&["--save"], b"", 1, &[STARTED], 0),
     (&["--frob"], ONE, 0, &[USAGE], 2),
 ];
-
-/// A run on this input whose calls fail so ends with this status, and has written this.
-fn ends(
-    rt: &impl Abort,
-    alloc: Global,
-    words: &[&str],
-    input: &[u8],
-    failing: Failing,
-    status: u8,
-    says: &[u8],
-) -> Result<(), Fail> {
-    let (ended, written) = ran(alloc, input, words, failing)?;
-    assert_eq!(rt; ended.status, status);
-    assert_eq!(rt; written.as_slice(), says);
-    Ok(())
-}
 
 #[test]
 fn a_read_that_fails_ends_a_run(rt: HostRuntime) -> Result<(), Fail> {

@@ -11,6 +11,7 @@ use iot_io::{MemSink, MemSource};
 use iot_store::Store;
 use iot_text::NoMemory;
 use std::alloc::Global;
+use std::process::Abort;
 use std::test::Fail;
 
 /// Which calls of a run's objects fail: of its source, of its sink and of its disk at this place the ones with these
@@ -68,6 +69,32 @@ pub(crate) fn ran(
     let disks = armed_disks(alloc, failing)?;
     let ended = run(alloc, words, &mut source, &mut sink, disks);
     Ok((ended, Vec::from_slice(alloc, sink.written())?))
+}
+
+/// A run on this input and these words ends with this status, and writes this. Gives the disks that it leaves.
+pub(crate) fn ends(
+    rt: &impl Abort,
+    alloc: Global,
+    words: &[&str],
+    input: &[u8],
+    failing: Failing,
+    status: u8,
+    says: &[u8],
+) -> Result<Vec<MemDisk>, Fail> {
+    let (ended, written) = ran(alloc, input, words, failing)?;
+    assert_eq!(rt; ended.status, status);
+    assert_eq!(rt; written.as_slice(), says);
+    Ok(ended.disks)
+}
+
+/// A run on this input in which nothing fails says this.
+pub(crate) fn says(
+    rt: &impl Abort,
+    alloc: Global,
+    input: &[u8],
+    says: &[u8],
+) -> Result<Vec<MemDisk>, Fail> {
+    ends(rt, alloc, &[], input, NONE, 0, says)
 }
 
 /// All these texts, one after the other.

@@ -1,5 +1,5 @@
 //! Runs with words: what each job writes, and how it ends.
-use crate::fixtures::{Failing, NONE, ran};
+use crate::fixtures::{Failing, NONE, ends, ran};
 use crate::runs::{CRASH, RECORDED};
 use std::test::Fail;
 
@@ -48,9 +48,7 @@ fn each_job_writes_its_output(rt: HostRuntime) -> Result<(), Fail> {
         (&["--gen", "01"], b"", 2, USAGE),
     ];
     for (words, input, status, output) in jobs {
-        let (ended, written) = ran(rt.alloc(), input, words, NONE)?;
-        assert_eq!(rt; ended.status, status);
-        assert_eq!(rt; written.as_slice(), output);
+        ends(&rt, rt.alloc(), words, input, NONE, status, output)?;
     }
     Ok(())
 }
@@ -71,9 +69,7 @@ fn a_disk_that_cannot_be_read_is_not_saved(rt: HostRuntime) -> Result<(), Fail> 
 fn a_generated_run_is_summed_up_and_reads_nothing(rt: HostRuntime) -> Result<(), Fail> {
     for words in [["--gen", "0"], ["--gen=0", "--"]] {
         let failing = Failing { read: 1, ..NONE };
-        let (ended, written) = ran(rt.alloc(), b"no event", &words, failing)?;
-        assert_eq!(rt; ended.status, 0);
-        assert_eq!(rt; written.as_slice(), COUNTED);
+        ends(&rt, rt.alloc(), &words, b"no event", failing, 0, COUNTED)?;
     }
     Ok(())
 }

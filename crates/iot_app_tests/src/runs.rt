@@ -1,5 +1,5 @@
 //! Runs on disks that fail, and some on which nothing fails; and what nodes find on their disks after one.
-use crate::fixtures::{Failing, NONE, client_on, ran, store_on};
+use crate::fixtures::{Failing, NONE, client_on, ends, joined, ran, says, store_on};
 use iot_disk::{MemDisk, Pick};
 use iot_text::Path;
 use iot_tree::Kind;
@@ -144,58 +144,57 @@ fn has_heard_of_it(rt: &impl Abort, alloc: Global, disk: Option<MemDisk>) -> Res
 #[test]
 fn a_run_keeps_its_commit(rt: HostRuntime) -> Result<(), Fail> {
     let alloc = rt.alloc();
-    let (ended, written) = ran(alloc, CRASH, &[], NONE)?;
-    assert_eq!(rt; ended.status, 0);
-    assert!(rt; written.starts_with(COMMITTED) && written.ends_with(CRASHED));
-    assert_eq!(rt; written.len(), COMMITTED.len() + CRASHED.len());
-    let mut disks = ended.disks.into_iter();
+    let said = joined(alloc, &[COMMITTED, CRASHED])?;
+    let mut disks = says(&rt, alloc, CRASH, &said)?.into_iter();
     has_the_commit(&rt, alloc, disks.next())?;
     has_heard_of_it(&rt, alloc, disks.next())
 }
 
 #[test]
 fn a_client_aborts_by_what_another_did(rt: HostRuntime) -> Result<(), Fail> {
-    let (ended, written) = ran(rt.alloc(), CONFLICT, &[], NONE)?;
-    assert_eq!(rt; ended.status, 0);
-    assert_eq!(rt; written.as_slice(), CONFLICTED);
+    says(&rt, rt.alloc(), CONFLICT, CONFLICTED)?;
     Ok(())
 }
 
 #[test]
 fn a_transaction_waits_until_a_verdict_comes(rt: HostRuntime) -> Result<(), Fail> {
-    for (input, says) in [(OFFLINE, DRAINED), (LOSSES, SETTLED), (STOPS, BACK)] {
-        let (ended, written) = ran(rt.alloc(), input, &[], NONE)?;
-        assert_eq!(rt; ended.status, 0);
-        assert_eq!(rt; written.as_slice(), says);
+    for (input, said) in [(OFFLINE, DRAINED), (LOSSES, SETTLED), (STOPS, BACK)] {
+        says(&rt, rt.alloc(), input, said)?;
     }
+    Ok(())
+}
+
+/// What is said, in two pieces, if the server's disk fails at this call, and how many commits the disk has then.
+fn stopped_at(device: u64, pick: Pick) -> ([&'static [u8]; 2], u64) {
+    let kept = device > 10 && pick != Pick::Old;
+    match device {
+        1..=8 => ([UNSTARTED, b""], 0),
+        9..=12 if kept => ([STOPPED, KEPT], 1),
+        9..=12 => ([STOPPED, LOST], 0),
+        _ => ([COMMITTED, AGAIN], 1),
+    }
+}
+
+/// A run whose server's disk fails there says so, and leaves so many commits.
+fn server_stops(rt: &impl Abort, alloc: Global, device: u64, pick: Pick) -> Result<(), Fail> {
+    let failing = Failing {
+        device,
+        pick,
+        ..NONE
+    };
+    let (texts, number) = stopped_at(device, pick);
+    let disks = ends(rt, alloc, &[], CRASH, failing, 0, &joined(alloc, &texts)?)?;
+    let store = store_on(alloc, disks.into_iter().next())?;
+    assert_eq!(rt; store.number(), number, "call {device}");
     Ok(())
 }
 
 #[test]
 fn a_server_whose_disk_fails_stops(rt: HostRuntime) -> Result<(), Fail> {
-    let alloc = rt.alloc();
     // A start of an empty disk makes eight device calls, a commit four, and the start after a crash one.
     for device in 1..14 {
         for pick in [Pick::Old, Pick::New, Pick::Fill(165)] {
-            let failing = Failing {
-                device,
-                pick,
-                ..NONE
-            };
-            let (ended, written) = ran(alloc, CRASH, &[], failing)?;
-            assert_eq!(rt; ended.status, 0, "call {device}");
-            let kept = device > 10 && pick != Pick::Old;
-            let (first, rest, number) = match device {
-                1..=8 => (UNSTARTED, b"".as_slice(), 0),
-                9..=12 if kept => (STOPPED, KEPT, 1),
-                9..=12 => (STOPPED, LOST, 0),
-                _ => (COMMITTED, AGAIN, 1),
-            };
-            let mut says = Vec::from_slice(alloc, first)?;
-            says.extend_from_slice(rest)?;
-            assert_eq!(rt; written.as_slice(), says.as_slice(), "call {device}");
-            let store = store_on(alloc, ended.disks.into_iter().next())?;
-            assert_eq!(rt; store.number(), number, "call {device}");
+            server_stops(&rt, rt.alloc(), device, pick)?;
         }
     }
     Ok(())
@@ -203,9 +202,7 @@ fn a_server_whose_disk_fails_stops(rt: HostRuntime) -> Result<(), Fail> {
 
 #[test]
 fn a_client_comes_back_from_its_disk(rt: HostRuntime) -> Result<(), Fail> {
-    let (ended, written) = ran(rt.alloc(), CUT, &[], NONE)?;
-    assert_eq!(rt; ended.status, 0);
-    assert_eq!(rt; written.as_slice(), CUT_OFF);
+    says(&rt, rt.alloc(), CUT, CUT_OFF)?;
     Ok(())
 }
 
@@ -217,20 +214,6 @@ fn at_client(device: u64, pick: Pick) -> Failing {
         pick,
         ..NONE
     }
-}
-
-/// A run whose client's disk fails there says this.
-fn stops_and_says(
-    rt: &impl Abort,
-    alloc: Global,
-    device: u64,
-    pick: Pick,
-    says: &[u8],
-) -> Result<(), Fail> {
-    let (ended, written) = ran(alloc, CUT, &[], at_client(device, pick))?;
-    assert_eq!(rt; ended.status, 0, "call {device}");
-    assert_eq!(rt; written.as_slice(), says, "call {device}");
-    Ok(())
 }
 
 /// A client whose disk failed there finds so many records.
@@ -298,7 +281,7 @@ fn a_client_whose_disk_fails_stops(rt: HostRuntime) -> Result<(), Fail> {
         ),
     ];
     for (device, pick, says) in cases {
-        stops_and_says(&rt, alloc, device, pick, says)?;
+        ends(&rt, alloc, &[], CUT, at_client(device, pick), 0, says)?;
     }
     // What it finds that stops in its last records.
     for (device, before, after) in [(29, 5, 5), (33, 5, 6), (37, 6, 7), (41, 7, 8)] {

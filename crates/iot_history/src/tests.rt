@@ -5,6 +5,7 @@ use iot_disk::{MemDisk, Pick};
 use iot_io::{MemSink, MemSource};
 use iot_text::NoMemory;
 use std::alloc::{AllocError, Global};
+use std::process::Abort;
 use std::test::Fail;
 
 /// The input of a first day.
@@ -109,6 +110,38 @@ fn ran(
     Ok(ended)
 }
 
+/// A run from this disk ends with this status. Gives the journal's disk.
+fn ends(
+    rt: &impl Abort,
+    alloc: Global,
+    disk: MemDisk,
+    run: Run<'_>,
+    status: u8,
+    told: &mut Vec<u8>,
+) -> Result<MemDisk, Fail> {
+    let ended = ran(alloc, disk, run, told)?;
+    assert_eq!(rt; ended.status, status);
+    Ok(ended.disk)
+}
+
+/// All pieces were told, but for the one at this place.
+fn tells_without(
+    rt: &impl Abort,
+    alloc: Global,
+    told: &[u8],
+    pieces: &[&[u8]],
+    lost: usize,
+) -> Result<(), Fail> {
+    let whole = joined_without(alloc, pieces, lost)?;
+    assert_eq!(rt; told, whole.as_slice());
+    Ok(())
+}
+
+/// All pieces were told.
+fn tells(rt: &impl Abort, alloc: Global, told: &[u8], pieces: &[&[u8]]) -> Result<(), Fail> {
+    tells_without(rt, alloc, told, pieces, pieces.len())
+}
+
 /// A disk that reads as these bytes.
 fn disk_of(alloc: Global, bytes: &[u8]) -> Result<MemDisk, AllocError> {
     MemDisk::of(alloc, Vec::from_slice(alloc, bytes)?)
@@ -118,32 +151,38 @@ fn disk_of(alloc: Global, bytes: &[u8]) -> Result<MemDisk, AllocError> {
 fn two_runs_print_what_one_prints(rt: HostRuntime) -> Result<(), Fail> {
     let alloc = rt.alloc();
     let mut told = Vec::new(alloc);
-    let first = ran(alloc, MemDisk::new(alloc), plain(TODAY), &mut told)?;
-    assert_eq!(rt; first.status, 0);
-    assert!(rt; told == joined(alloc, &PIECES[..4])?);
-    let second = ran(alloc, first.disk, plain(TOMORROW), &mut told)?;
-    assert_eq!(rt; second.status, 0);
-    assert!(rt; told == joined(alloc, &PIECES)?);
-    let third = ran(alloc, second.disk, plain(b""), &mut told)?;
-    assert_eq!(rt; third.status, 0);
-    assert!(rt; told == joined(alloc, &PIECES)?);
-    Ok(())
+    let disk = ends(&rt, alloc, MemDisk::new(alloc), plain(TODAY), 0, &mut told)?;
+    tells(&rt, alloc, &told, &PIECES[..4])?;
+    let disk = ends(&rt, alloc, disk, plain(TOMORROW), 0, &mut told)?;
+    tells(&rt, alloc, &told, &PIECES)?;
+    ends(&rt, alloc, disk, plain(b""), 0, &mut told)?;
+    tells(&rt, alloc, &told, &PIECES)
+}
+
+/// This call of the sink fails, before which these pieces were told. The piece at this place is lost by that.
+fn loses(
+    rt: &impl Abort,
+    alloc: Global,
+    input: &[u8],
+    write: u64,
+    before: &[&[u8]],
+    lost: usize,
+) -> Result<(), Fail> {
+    let mut told = Vec::new(alloc);
+    let mut run = plain(input);
+    run.write = write;
+    let disk = ends(rt, alloc, MemDisk::new(alloc), run, 4, &mut told)?;
+    tells(rt, alloc, &told, before)?;
+    ends(rt, alloc, disk, plain(b""), 0, &mut told)?;
+    tells_without(rt, alloc, &told, &PIECES, lost)
 }
 
 #[test]
 fn a_piece_whose_write_failed_is_the_one_that_lacks(rt: HostRuntime) -> Result<(), Fail> {
     let alloc = rt.alloc();
+    let both = joined(alloc, &[TODAY, TOMORROW])?;
     for (write, lost) in [(1, 1), (2, 3), (3, 4), (4, 5)] {
-        let both = joined(alloc, &[TODAY, TOMORROW])?;
-        let mut told = Vec::new(alloc);
-        let mut run = plain(&both);
-        run.write = write;
-        let first = ran(alloc, MemDisk::new(alloc), run, &mut told)?;
-        assert_eq!(rt; first.status, 4);
-        assert!(rt; told == joined(alloc, &PIECES[..lost])?);
-        let second = ran(alloc, first.disk, plain(b""), &mut told)?;
-        assert_eq!(rt; second.status, 0);
-        assert!(rt; told == joined_without(alloc, &PIECES, lost)?);
+        loses(&rt, alloc, &both, write, &PIECES[..lost], lost)?;
     }
     Ok(())
 }
@@ -154,10 +193,8 @@ fn a_piece_that_is_cut_is_not_said_again(rt: HostRuntime) -> Result<(), Fail> {
     let mut told = Vec::new(alloc);
     let mut run = plain(TODAY);
     run.room = 17;
-    let first = ran(alloc, MemDisk::new(alloc), run, &mut told)?;
-    assert_eq!(rt; first.status, 4);
-    let second = ran(alloc, first.disk, plain(TOMORROW), &mut told)?;
-    assert_eq!(rt; second.status, 0);
+    let disk = ends(&rt, alloc, MemDisk::new(alloc), run, 4, &mut told)?;
+    ends(&rt, alloc, disk, plain(TOMORROW), 0, &mut told)?;
     assert_eq!(rt;
         told.as_slice(),
         b"client laptop\nendclient desk\ndir /\ndir /src\n".as_slice()
@@ -165,23 +202,24 @@ fn a_piece_that_is_cut_is_not_said_again(rt: HostRuntime) -> Result<(), Fail> {
     Ok(())
 }
 
+/// The first run fails at this call of its journal's disk. Its input is lost, or one piece at most.
+fn loses_one_at_most(rt: &impl Abort, alloc: Global, device: u64, pick: Pick) -> Result<(), Fail> {
+    let mut told = Vec::new(alloc);
+    let mut run = plain(TODAY);
+    run.device = device;
+    run.pick = pick;
+    let disk = ends(rt, alloc, MemDisk::new(alloc), run, 6, &mut told)?;
+    ends(rt, alloc, disk, plain(TOMORROW), 0, &mut told)?;
+    let lacks = lacks_one_at_most(alloc, &told, &PIECES)?;
+    assert!(rt; lacks || told.as_slice() == ALONE, "at {device}");
+    Ok(())
+}
+
 #[test]
 fn each_failure_of_the_journal_loses_one_piece_at_most(rt: HostRuntime) -> Result<(), Fail> {
-    let alloc = rt.alloc();
     for device in 1..=20 {
         for pick in [Pick::Old, Pick::New] {
-            let mut told = Vec::new(alloc);
-            let mut run = plain(TODAY);
-            run.device = device;
-            run.pick = pick;
-            let first = ran(alloc, MemDisk::new(alloc), run, &mut told)?;
-            assert_eq!(rt; first.status, 6, "at {device}");
-            let second = ran(alloc, first.disk, plain(TOMORROW), &mut told)?;
-            assert_eq!(rt; second.status, 0, "at {device}");
-            assert!(rt;
-                told.as_slice() == ALONE || lacks_one_at_most(alloc, &told, &PIECES)?,
-                "at {device}"
-            );
+            loses_one_at_most(&rt, rt.alloc(), device, pick)?;
         }
     }
     Ok(())
@@ -191,18 +229,13 @@ fn each_failure_of_the_journal_loses_one_piece_at_most(rt: HostRuntime) -> Resul
 fn a_refused_input_leaves_the_journal_as_it_was(rt: HostRuntime) -> Result<(), Fail> {
     let alloc = rt.alloc();
     let mut told = Vec::new(alloc);
-    let first = ran(alloc, MemDisk::new(alloc), plain(TODAY), &mut told)?;
-    let bytes = Vec::from_slice(alloc, first.disk.bytes())?;
+    let disk = ends(&rt, alloc, MemDisk::new(alloc), plain(TODAY), 0, &mut told)?;
+    let bytes = Vec::from_slice(alloc, disk.bytes())?;
     told.clear();
-    let second = ran(
-        alloc,
-        first.disk,
-        plain(b"client desk\nclient laptop\n"),
-        &mut told,
-    )?;
-    assert_eq!(rt; second.status, 1);
+    let twice = plain(b"client desk\nclient laptop\n");
+    let disk = ends(&rt, alloc, disk, twice, 1, &mut told)?;
     assert_eq!(rt; told.as_slice(), b"line 2: named twice\n".as_slice());
-    assert_eq!(rt; second.disk.bytes(), bytes.as_slice());
+    assert_eq!(rt; disk.bytes(), bytes.as_slice());
     Ok(())
 }
 
@@ -212,10 +245,9 @@ fn a_read_that_failed_leaves_the_journal_as_it_was(rt: HostRuntime) -> Result<()
     let mut told = Vec::new(alloc);
     let mut run = plain(TOMORROW);
     run.read = 1;
-    let ended = ran(alloc, disk_of(alloc, MARKED)?, run, &mut told)?;
-    assert_eq!(rt; ended.status, 3);
+    let disk = ends(&rt, alloc, disk_of(alloc, MARKED)?, run, 3, &mut told)?;
     assert!(rt; told.is_empty());
-    assert_eq!(rt; ended.disk.bytes(), MARKED);
+    assert_eq!(rt; disk.bytes(), MARKED);
     Ok(())
 }
 
@@ -223,14 +255,9 @@ fn a_read_that_failed_leaves_the_journal_as_it_was(rt: HostRuntime) -> Result<()
 fn a_run_records_its_input_and_marks_its_pieces(rt: HostRuntime) -> Result<(), Fail> {
     let alloc = rt.alloc();
     let mut told = Vec::new(alloc);
-    let ended = ran(
-        alloc,
-        MemDisk::new(alloc),
-        plain(b"client laptop"),
-        &mut told,
-    )?;
-    assert_eq!(rt; ended.status, 0);
-    assert_eq!(rt; ended.disk.bytes(), MARKED);
+    let run = plain(b"client laptop");
+    let disk = ends(&rt, alloc, MemDisk::new(alloc), run, 0, &mut told)?;
+    assert_eq!(rt; disk.bytes(), MARKED);
     Ok(())
 }
 
@@ -238,13 +265,8 @@ fn a_run_records_its_input_and_marks_its_pieces(rt: HostRuntime) -> Result<(), F
 fn more_marks_than_pieces_are_no_fault(rt: HostRuntime) -> Result<(), Fail> {
     let alloc = rt.alloc();
     let mut told = Vec::new(alloc);
-    let ended = ran(
-        alloc,
-        disk_of(alloc, MARKED_ALONE)?,
-        plain(b"client laptop"),
-        &mut told,
-    )?;
-    assert_eq!(rt; ended.status, 0);
+    let run = plain(b"client laptop");
+    ends(&rt, alloc, disk_of(alloc, MARKED_ALONE)?, run, 0, &mut told)?;
     assert!(rt; told.is_empty());
     Ok(())
 }
@@ -254,10 +276,16 @@ fn a_disk_without_inputs_is_refused(rt: HostRuntime) -> Result<(), Fail> {
     let alloc = rt.alloc();
     for (bytes, status) in [(NO_SCRIPT, 8), (FOREIGN, 7)] {
         let mut told = Vec::new(alloc);
-        let ended = ran(alloc, disk_of(alloc, bytes)?, plain(TODAY), &mut told)?;
-        assert_eq!(rt; ended.status, status);
+        let disk = ends(
+            &rt,
+            alloc,
+            disk_of(alloc, bytes)?,
+            plain(TODAY),
+            status,
+            &mut told,
+        )?;
         assert!(rt; told.is_empty());
-        assert_eq!(rt; ended.disk.bytes(), bytes);
+        assert_eq!(rt; disk.bytes(), bytes);
     }
     Ok(())
 }
