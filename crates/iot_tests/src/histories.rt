@@ -8,7 +8,6 @@ use iot_kept::{Kept, StartFault};
 use iot_text::{NoMemory, Path};
 use iot_tree::Kind;
 use std::alloc::Global;
-use std::process::Abort;
 use std::test::Fail;
 
 /// The root alone is held, and is whole.
@@ -204,6 +203,7 @@ fn started<D: Disk + Drop>(alloc: Global, mut disk: D) -> Result<Kept<D>, StartF
 
 /// A running transaction: its number, whether it is first class, how many acts it has, and what its own view has at `/d`.
 type Seen = (u64, bool, usize, Kind);
+
 /// The number and the budget of the first that waits.
 fn head_of<D: Disk>(kept: &Kept<D>) -> Option<(u64, u64)> {
     match kept.queue().head() {
@@ -259,24 +259,6 @@ fn seen<D: Disk>(alloc: Global, kept: &Kept<D>) -> Result<After, Fail>
         held: kept.held().kind(&path),
         view: kept.view().kind(&path),
     })
-}
-
-/// Nothing was ever kept: the root is away.
-fn knows_nothing<D: Disk>(rt: &impl Abort, alloc: Global, kept: &Kept<D>) -> Result<(), Fail>
-    requires { IsSynced D.medium kept.now }
-{
-    assert!(rt; kept.running().is_empty());
-    assert_eq!(rt; kept.last(), 0);
-    assert_eq!(rt; kept.records(), 0);
-    assert_eq!(rt; kept.view().kind(&Path::parse(alloc, b"/d")?), Kind::Away);
-    Ok(())
-}
-
-#[test]
-fn nothing_is_known_at_first(rt: HostRuntime) -> Result<(), Fail> {
-    let alloc = rt.alloc();
-    let kept = started(alloc, MemDisk::new(alloc))?;
-    knows_nothing(&rt, alloc, &kept)
 }
 
 #[test]

@@ -32,10 +32,6 @@ const AGAIN: &[u8] = b"\x01\0\0\0\0\0\0\0\0\0\0\0\0\0\0\0\x01\0\0\0\0\0\0\0\0\0\
 /// Nothing is new, and nothing is gone.
 const NOTHING: &[u8] = b"\x01\0\0\0\0\0\0\0\0\0\0\0\0\0\0\0\0";
 
-/// It knows the root, but no stamp of it.
-const RESTARTED: &[u8] = b"\x01\0\0\0\0\0\0\0\0\0\0\0\0\0\0\0\x01\0\0\0\0\0\0\0\0\0\0\0\0\0\0\0\0\
-    \x03\0\0\0\0\0\0\0\0";
-
 /// Two records, each of which says that the root alone is held, and is whole.
 const TWICE: &[&[u8]] = &[HELD, HELD];
 
@@ -93,23 +89,21 @@ fn hoard<S: Disk, C: Disk>(
     Ok(())
 }
 
-/// The client asks a new server in these bytes, which bring the root, and then once more. It holds the root alone, by so many records.
+/// The client asks a new server, which sends the root, and then once more. It holds the root alone, by two records.
 fn hoard_twice<S: Disk, C: Disk>(
     rt: &impl Abort,
     alloc: Global,
     server: &mut Server<S>,
     client: &mut Client<C>,
-    asks: &[u8],
-    records: u64,
 ) -> Result<(), Fail>
     requires synced { IsSynced S.medium server.old }
     requires tied { IsTied C.medium client.old }
     requires place { place_of client.old ≤ 7 }
 {
-    hoard(rt, alloc, server, client, asks, ROOT)?;
+    hoard(rt, alloc, server, client, FIRST, ROOT)?;
     hoard(rt, alloc, server, client, AGAIN, NOTHING)?;
     assert_eq!(rt; client.held().rows().len(), 1);
-    assert_eq!(rt; client.records(), records);
+    assert_eq!(rt; client.records(), 2);
     Ok(())
 }
 
@@ -119,44 +113,28 @@ fn hoards_on<S: Disk, C: Disk + Drop>(
     alloc: Global,
     server: &mut Server<S>,
     client: C,
-    asks: &[u8],
-    records: u64,
 ) -> Result<C, Fail>
     requires { IsSynced S.medium server.old }
 {
     let mut client = client_on(alloc, client)?;
-    hoard_twice(rt, alloc, server, &mut client, asks, records)?;
+    hoard_twice(rt, alloc, server, &mut client)?;
     Ok(client.into_disk())
 }
 
-/// The same at a server that starts from an empty disk.
-fn hoards(
-    rt: &impl Abort,
-    alloc: Global,
-    client: MemDisk,
-    asks: &[u8],
-    records: u64,
-) -> Result<MemDisk, Fail> {
+/// The same on disks that are empty. Gives the client's.
+fn hoards(rt: &impl Abort, alloc: Global) -> Result<MemDisk, Fail> {
     let mut server = started(alloc, MemDisk::new(alloc))?;
-    hoards_on(rt, alloc, &mut server, client, asks, records)
+    hoards_on(rt, alloc, &mut server, MemDisk::new(alloc))
 }
 
 #[test]
 fn what_is_known_does_not_come_again(rt: HostRuntime) -> Result<(), Fail> {
     let alloc = rt.alloc();
-    let disk = hoards(&rt, alloc, MemDisk::new(alloc), FIRST, 2)?;
+    let disk = hoards(&rt, alloc)?;
 
     // What is held has not changed, and its record was appended again.
     let twice = recorded(alloc, TWICE, None)?;
     assert_eq!(rt; disk.bytes(), twice.as_slice());
-    Ok(())
-}
-
-#[test]
-fn no_stamp_is_known_after_a_restart(rt: HostRuntime) -> Result<(), Fail> {
-    let alloc = rt.alloc();
-    let disk = MemDisk::of(alloc, recorded(alloc, TWICE, None)?)?;
-    hoards(&rt, alloc, disk, RESTARTED, 4)?;
     Ok(())
 }
 

@@ -122,27 +122,10 @@ fn each_request_has_its_reply(rt: HostRuntime) -> Result<(), Fail> {
     answers_each(&rt, alloc, &mut server)
 }
 
-/// The disk of a server that has answered the request so.
-fn answered<D: Disk + Drop>(
-    rt: &impl Abort,
-    alloc: Global,
-    disk: D,
-    request: &[u8],
-    reply: &[u8],
-) -> Result<D, Fail> {
+/// The server that starts from this disk has the commit.
+fn has_the_commit<D: Disk + Drop>(rt: &impl Abort, alloc: Global, disk: D) -> Result<(), Fail> {
     let mut server = started(alloc, disk)?;
-    answers(rt, alloc, &mut server, request, reply)?;
-    Ok(server.into_disks().0)
-}
-
-#[test]
-fn a_restart_counts_requests_anew(rt: HostRuntime) -> Result<(), Fail> {
-    let alloc = rt.alloc();
-    let disk = answered(&rt, alloc, MemDisk::new(alloc), COMMIT, COMMITTED)?;
-    let server = started(alloc, disk)?;
-    assert_eq!(rt; server.store().number(), 1);
-    assert_eq!(rt; server.traffic().requests, 0);
-    Ok(())
+    answers(rt, alloc, &mut server, COMMIT, ALREADY)
 }
 
 /// A server's disk fails at this call of a commit. The server starts again.
@@ -224,14 +207,7 @@ fn stops_on_the_backup<D: Disk + Drop>(
     let server = fails_in(alloc, server, COMMIT)?;
     assert_eq!(rt; server.store().number(), 1);
     let (_first, backup) = server.into_disks();
-    answered(
-        rt,
-        alloc,
-        backup.ok_or("there is no backup")?,
-        COMMIT,
-        ALREADY,
-    )?;
-    Ok(())
+    has_the_commit(rt, alloc, backup.ok_or("there is no backup")?)
 }
 
 #[test]

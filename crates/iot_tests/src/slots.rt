@@ -11,7 +11,7 @@ use std::test::Fail;
 
 pub(crate) const HEADER: [u8; 8] = *b"IOTSLOT1";
 
-pub(crate) const PICKS: [Pick; 3] = [Pick::Old, Pick::New, Pick::Fill(165)];
+const PICKS: [Pick; 3] = [Pick::Old, Pick::New, Pick::Fill(165)];
 
 /// A disk that was started with the body "ab".
 const FRESH: [u8; 62] =

@@ -1,15 +1,13 @@
-//! Two disks: what is on both after each call, and what a stop at each device call of either leaves.
-ghost use Rattle.std.specs.Prelude.{◌≡◌, ℕ, List, IfOk, OnOk};
+//! Two disks: what is on both after each call, and on the second one alone.
+ghost use Rattle.std.specs.Prelude.{ℕ, List, IfOk};
 ghost use Rattle.iot_disk.specs.Disk.{Only};
-ghost use Rattle.iot_backup.specs.Parts.{IsThere, If};
-ghost use Rattle.iot_backup.specs.Pairs.{EachPair};
-ghost use Rattle.iot_slots.specs.Slots.{disk_of, header_of};
+ghost use Rattle.iot_backup.specs.Parts.{IsThere};
 ghost use Rattle.iot_backup.specs.Start.{MayBeBehind};
-ghost use Rattle.iot_backup.specs.Twin.{IsSynced, first_of, second_of};
+ghost use Rattle.iot_backup.specs.Twin.{IsSynced, second_of};
 
-use crate::slots::{HEADER, PICKS, found};
+use crate::slots::{HEADER, found};
 use iot_backup::{Twin, TwinFault};
-use iot_disk::{Disk, JournalFault, MemDisk, Pick, StartFault};
+use iot_disk::{Disk, JournalFault, MemDisk, StartFault};
 use std::alloc::Global;
 use std::process::Abort;
 use std::test::Fail;
@@ -26,7 +24,6 @@ fn started<D: Disk + Drop>(
     requires behind { (body : List ℕ) → MayBeBehind header body (D.medium.reads first) (D.medium.reads second) }
     ensures synced { IfOk result (λ twin. IsSynced D.medium twin) }
     ensures there { IfOk result (λ twin. IsThere (second_of twin)) }
-    ensures header { IfOk result (λ twin. header_of (first_of twin) ≡ header) }
 {
     match Twin::start(alloc, first, second, header, b"ab") {
         Ok((twin, _)) => Ok(twin),
@@ -42,40 +39,6 @@ fn append<D: Disk>(twin: &mut Twin<D>, body: &[u8]) -> Result<(), JournalFault>
         return Err(JournalFault::NoMemory);
     }
     twin.append(body)
-}
-
-/// A twin over two disks, after a restart of both.
-fn restarted<D: Disk + Drop>(
-    alloc: Global,
-    mut first: D,
-    mut second: D,
-    header: [u8; 8],
-) -> Result<Twin<D>, TwinFault>
-    requires behind { (body : List ℕ) → EachPair (MayBeBehind header body) (D.medium.may_leave first) (D.medium.may_leave second) }
-{
-    first.restart();
-    second.restart();
-    started(alloc, first, second, header)
-}
-
-/// The disks of a twin after an append that a stop may end, and after a start that makes up for it.
-fn made_up<D: Disk + Drop>(
-    alloc: Global,
-    mut twin: Twin<D>,
-    header: [u8; 8],
-) -> Result<(D, Option<D>), TwinFault>
-    requires synced { IsSynced D.medium twin }
-    requires header { header_of (first_of twin) ≡ header }
-{
-    if twin.due(false, 3) || twin.due(true, 3) {
-        return Err(TwinFault::Disk(StartFault::NoMemory));
-    }
-    let _stopped = twin.append(b"new");
-    let (first, second) = twin.into_disks();
-    let Some(second) = second else {
-        return Ok((first, None));
-    };
-    Ok(restarted(alloc, first, second, header)?.into_disks())
 }
 
 /// What both disks of a twin encode.
@@ -107,46 +70,6 @@ fn each_disk_has_checkpoints_of_its_own(rt: HostRuntime) -> Result<(), Fail> {
     twin.checkpoint(true, b"abcd")?;
     append(&mut twin, b"new")?;
     assert_eq!(rt; both(alloc, twin.into_disks())?, [(2, 1, 1), (4, 1, 1)]);
-    Ok(())
-}
-
-/// The second disk fails at this call of an append, whose record both have after a start that makes up for it.
-fn stops_on_the_second(rt: &impl Abort, alloc: Global, calls: u64, pick: Pick) -> Result<(), Fail> {
-    let mut twin = started(alloc, MemDisk::new(alloc), MemDisk::new(alloc), HEADER)?;
-    twin.arm(true, calls, pick);
-    let disks = made_up(alloc, twin, HEADER)?;
-    assert_eq!(rt; both(alloc, disks)?, [(2, 1, 1), (2, 1, 1)], "call {calls}");
-    Ok(())
-}
-
-#[test]
-fn a_stop_on_the_second_disk_loses_nothing(rt: HostRuntime) -> Result<(), Fail> {
-    let alloc = rt.alloc();
-    for calls in 1..5 {
-        for pick in PICKS {
-            stops_on_the_second(&rt, alloc, calls, pick)?;
-        }
-    }
-    Ok(())
-}
-
-/// The first disk fails at this call of an append, and both are alike after a start that makes up for it.
-fn stops_on_the_first(rt: &impl Abort, alloc: Global, calls: u64, pick: Pick) -> Result<(), Fail> {
-    let mut twin = started(alloc, MemDisk::new(alloc), MemDisk::new(alloc), HEADER)?;
-    twin.arm(false, calls, pick);
-    let [first, second] = both(alloc, made_up(alloc, twin, HEADER)?)?;
-    assert_eq!(rt; first, second, "call {calls}");
-    Ok(())
-}
-
-#[test]
-fn a_stop_on_the_first_disk_leaves_both_alike(rt: HostRuntime) -> Result<(), Fail> {
-    let alloc = rt.alloc();
-    for calls in 1..5 {
-        for pick in PICKS {
-            stops_on_the_first(&rt, alloc, calls, pick)?;
-        }
-    }
     Ok(())
 }
 

@@ -141,9 +141,9 @@ fn an_upgrade_keeps_the_state_and_the_count(rt: HostRuntime) -> Result<(), Fail>
     Ok(())
 }
 
-/// The number of commits of a server that starts from these bytes.
-fn commits_in(alloc: Global, bytes: Vec<u8>) -> Result<u64, StartFault> {
-    let server = started(alloc, MemDisk::of(alloc, bytes)?)?;
+/// The number of commits of a server that starts from this disk.
+fn commits_on<D: Disk + Drop>(alloc: Global, disk: D) -> Result<u64, StartFault> {
+    let server = started(alloc, disk)?;
     Ok(server.store().number())
 }
 
@@ -153,14 +153,15 @@ fn version_1_knows_no_modes(rt: HostRuntime) -> Result<(), Fail> {
     for (mark, want) in [(0x80, Ok(1)), (0, Err(StartFault::Damaged { at: 100 }))] {
         let mut bytes = ASKS_A_MODE;
         bytes[18] = mark;
-        assert_eq!(rt; commits_in(alloc, bytes.to_vec(alloc)?), want);
+        let disk = MemDisk::of(alloc, bytes.to_vec(alloc)?)?;
+        assert_eq!(rt; commits_on(alloc, disk), want);
     }
     Ok(())
 }
 
-/// The number of records of a client that starts from these bytes.
-fn records_in(alloc: Global, bytes: Vec<u8>) -> Result<u64, StartFault> {
-    let client = client_on(alloc, MemDisk::of(alloc, bytes)?)?;
+/// The number of records of a client that starts from this disk.
+fn records_on<D: Disk + Drop>(alloc: Global, disk: D) -> Result<u64, StartFault> {
+    let client = client_on(alloc, disk)?;
     Ok(client.records())
 }
 
@@ -177,7 +178,7 @@ fn a_client_has_version_2_alone(rt: HostRuntime) -> Result<(), Fail> {
         if let Some(old) = bytes.get_mut(at) {
             *old = byte;
         }
-        assert_eq!(rt; records_in(alloc, bytes), want);
+        assert_eq!(rt; records_on(alloc, MemDisk::of(alloc, bytes)?), want);
     }
     Ok(())
 }
