@@ -1,6 +1,5 @@
 //! Runs whose source or sink fails at each of their calls in turn: how they end, and what they have written by then.
 use crate::fixtures::{Failing, NONE, ends, joined};
-use crate::jobs::{NOTHING, STARTED, USAGE};
 use std::test::Fail;
 
 /// A transaction, and the server's tree.
@@ -11,6 +10,24 @@ const ONE: &[u8] =
 const TWO: &[u8] = b"client laptop\nclient desk\nscript init {\nmkdir /d\nwrite /d/n 1\n}\n\
     run laptop init abort\nhoard laptop /d\nhoard desk /d\nscript two {\nwrite /d/n 2\n}\n\
     begin laptop two abort\nstep laptop\nlose laptop reply\nend laptop\nconnect laptop\nsync laptop\n";
+
+/// What the server's disk has before any commit: the header; the cell in force, with generation 1 and 2^63 + 43, which marks version 2 and
+/// names the place 43; the other cell, closed; and at 43 a checkpoint with a body of 41 bytes, before and behind which there is no record:
+/// the root, no labels, and the root's stamp.
+const STARTED: &[u8] = b"\xa5IOTSLOT1\
+    \xa5\0\0\0\0\0\0\0\x01\x80\0\0\0\0\0\0\x2b\
+    \0\0\0\0\0\0\0\0\0\0\0\0\0\0\0\0\0\
+    \0\0\0\0\0\0\0\x29\
+    \0\0\0\0\0\0\0\x01\0\0\0\0\0\0\0\0\x01\
+    \0\0\0\0\0\0\0\0\
+    \0\0\0\0\0\0\0\x01\0\0\0\0\0\0\0\x01\
+    \0\0\0\0\0\0\0\0\
+    \0";
+
+/// What no events leave.
+const NOTHING: &[u8] = b"{\"clients\":[],\"commits\":[],\"server\":[[\"/\",\"dir\"]]}\n";
+
+const USAGE: &[u8] = b"usage: iot [--json | --gen N | --save | --image | --upgrade | --audit]\n";
 
 /// Words and an input, how often it is read, what is written by each call, and the status. An input is read until a read gives nothing.
 const CASES: [(&[&str], &[u8], u64, &[&[u8]], u8); 5] = [

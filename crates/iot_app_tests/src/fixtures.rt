@@ -82,19 +82,10 @@ pub(crate) fn ends(
     says: &[u8],
 ) -> Result<Vec<MemDisk>, Fail> {
     let (ended, written) = ran(alloc, input, words, failing)?;
-    assert_eq!(rt; ended.status, status);
-    assert_eq!(rt; written.as_slice(), says);
+    let device = failing.device;
+    assert_eq!(rt; ended.status, status, "device call {device}");
+    assert_eq!(rt; written.as_slice(), says, "device call {device}");
     Ok(ended.disks)
-}
-
-/// A run on this input in which nothing fails says this.
-pub(crate) fn says(
-    rt: &impl Abort,
-    alloc: Global,
-    input: &[u8],
-    says: &[u8],
-) -> Result<Vec<MemDisk>, Fail> {
-    ends(rt, alloc, &[], input, NONE, 0, says)
 }
 
 /// All these texts, one after the other.

@@ -2,12 +2,6 @@
 #![tactic(auto)]
 
 #[cfg(test)]
-mod audits;
-#[cfg(test)]
-mod backups;
-#[cfg(test)]
-mod events;
-#[cfg(test)]
 mod faults;
 #[cfg(test)]
 mod fixtures;

@@ -1,5 +1,5 @@
-//! Runs on disks that fail, and some on which nothing fails; and what nodes find on their disks after one.
-use crate::fixtures::{Failing, NONE, client_on, ends, joined, ran, says, store_on};
+//! Runs on disks that fail, and one on which nothing fails; and what nodes find on their disks after one.
+use crate::fixtures::{Failing, NONE, client_on, ends, joined, ran, store_on};
 use iot_disk::{MemDisk, Pick};
 use iot_text::Path;
 use iot_tree::Kind;
@@ -8,7 +8,7 @@ use std::process::Abort;
 use std::test::Fail;
 
 /// A transaction, and a server that crashes and comes back. What it is asked while it is down is lost.
-pub(crate) const CRASH: &[u8] =
+const CRASH: &[u8] =
     b"client laptop\nscript e {\nmkdir /d\ncat /x\n}\nrun laptop e abort\ncrash server\n\
     refresh laptop\ncrash server\nrestart server\nrestart server\nshow server\n";
 
@@ -20,7 +20,7 @@ const CRASHED: &[u8] = b"crash server\naway\ndown\nrestart server\nup\ndir /\ndi
 
 /// What it leaves on the server's disk: one record behind the checkpoint of the start, of 181 bytes. It has the label of client 0's
 /// transaction 1, of the script `e`, certified, with nothing kept; what it asked of the tree before it, its update and its line.
-pub(crate) const RECORDED: &[u8] = b"\xa5IOTSLOT1\
+const RECORDED: &[u8] = b"\xa5IOTSLOT1\
     \xa5\0\0\0\0\0\0\0\x01\x80\0\0\0\0\0\0\x2b\
     \0\0\0\0\0\0\0\0\0\0\0\0\0\0\0\0\0\
     \0\0\0\0\0\0\0\x29\
@@ -58,68 +58,6 @@ const AGAIN: &[u8] = b"crash server\naway\ndown\nserver stopped\nrestart server\
 const CUT: &[u8] = b"client laptop\nscript five {\necho 1\necho 2\necho 3\necho 4\necho 5\n}\n\
     begin laptop five abort\nstep laptop 3\ncrash laptop\nrestart laptop\nqueue laptop\ndrain laptop\n";
 
-/// What it says.
-const CUT_OFF: &[u8] =
-    b"client laptop\nbegin laptop.1 five first\nstep laptop.1 3 acts\ncrash laptop\nrestart laptop\ncut laptop.1 3 acts\n\
-    item laptop.1 five abort waiting 3 acts cut\ncommit 1 laptop.1 certified\n|1\n|2\n|3\nsettled laptop.1 1\nrefresh laptop\n";
-
-/// Two clients. One of them lists a directory in which the other then makes a file, and its transaction is aborted.
-const CONFLICT: &[u8] = b"client laptop\nclient desk\n\
-    script init {\nmkdir /d\nwrite /d/n 1\n}\n\
-    script put {\nwrite /d/a A\n}\n\
-    script list {\nls /d\nwrite /d/b B\n}\n\
-    run laptop init abort\nhoard desk /d\nbegin desk list abort\nstep desk 1\nend desk\nrefresh desk\n\
-    run laptop put abort\nstep desk 2\nend desk\nend desk\nrefresh laptop\nrun laptop list abort\n\
-    show laptop\nshow desk\nshow server\n";
-
-/// What it says.
-const CONFLICTED: &[u8] =
-    b"client laptop\nclient desk\nend laptop.1\ncommit 1 laptop.1 certified\nsettled laptop.1 1\n\
-    hoard desk /d\nbegin desk.1 list first\nstep desk.1 1 acts\nnot at end\nbusy\n\
-    end laptop.2\ncommit 2 laptop.2 certified\nsettled laptop.2 2\n\
-    step desk.1 2 acts, at end\nend desk.1\nconflict desk.1 read 1 names /d\nabort desk.1\nidle\n\
-    refresh laptop\nend laptop.3\ncommit 3 laptop.3 certified\n|a\n|n\nsettled laptop.3 3\n\
-    dir /\ndir /d\nfile /d/a \"A\"\nfile /d/b \"B\"\nfile /d/n \"1\"\n\
-    dir /\ndir /d\nfile /d/b \"B\"\nfile /d/n \"1\"\n\
-    dir /\ndir /d\nfile /d/a \"A\"\nfile /d/b \"B\"\nfile /d/n \"1\"\n";
-
-/// A transaction of a client that is disconnected, and is drained when it is connected again.
-const OFFLINE: &[u8] = b"client laptop\nscript put {\nwrite /n 1\ncat /n\n}\nhoard laptop /\n\
-    disconnect laptop\nrun laptop put abort\nshow laptop\nshow server\n\
-    connect laptop\ndrain laptop\nshow server\n";
-
-/// What it says.
-const DRAINED: &[u8] =
-    b"client laptop\nhoard laptop /\ndisconnect laptop\nend laptop.1\npending laptop.1\n|1\n\
-    dir /\nfile /n \"1\"\ndir /\n\
-    connect laptop\ncommit 1 laptop.1 certified\n|1\nsettled laptop.1 1\nrefresh laptop\ndir /\nfile /n \"1\"\n";
-
-/// The same transaction, submitted over a link that loses first the request and then the reply.
-const LOSSES: &[u8] = b"client laptop\nscript put {\nwrite /n 1\ncat /n\n}\nhoard laptop /\n\
-    disconnect laptop\nrun laptop put abort\n\
-    connect laptop\nlose laptop request\nsync laptop\nsync laptop\n\
-    connect laptop\nlose laptop reply\nsync laptop\n\
-    connect laptop\nsync laptop\nsync laptop\nshow server\n";
-
-/// What it says. After a loss nothing is sent until the client is connected, and what was committed is not committed again.
-const SETTLED: &[u8] =
-    b"client laptop\nhoard laptop /\ndisconnect laptop\nend laptop.1\npending laptop.1\n|1\n\
-    connect laptop\nlose laptop request\naway\naway\n\
-    connect laptop\nlose laptop reply\ncommit 1 laptop.1 certified\n|1\naway\n\
-    connect laptop\nsettled laptop.1 1\nnothing\ndir /\nfile /n \"1\"\n";
-
-/// A server that is told to stop in a commit, and then in each of two starts. The commit is kept.
-const STOPS: &[u8] =
-    b"client laptop\nscript put {\nwrite /n 1\n}\nhoard laptop /\nstop server 3 new\nrun laptop put abort\n\
-    show server\nstop server 1 0\nrestart server\nstop server 1 old\nrestart server\nrestart server\n\
-    connect laptop\nsync laptop\nshow server\n";
-
-/// What it says. The verdict comes when the server is back.
-const BACK: &[u8] =
-    b"client laptop\nhoard laptop /\nstop server 3 new\nend laptop.1\nserver stopped\naway\npending laptop.1\n\
-    down\nstop server 1 0\nserver stopped\nstop server 1 old\nserver stopped\n\
-    restart server kept\ncommit 1 laptop.1 certified\nconnect laptop\nsettled laptop.1 1\ndir /\nfile /n \"1\"\n";
-
 /// The server's disk has the commit, and nothing else.
 fn has_the_commit(rt: &impl Abort, alloc: Global, disk: Option<MemDisk>) -> Result<(), Fail> {
     let store = store_on(alloc, disk)?;
@@ -145,23 +83,9 @@ fn has_heard_of_it(rt: &impl Abort, alloc: Global, disk: Option<MemDisk>) -> Res
 fn a_run_keeps_its_commit(rt: HostRuntime) -> Result<(), Fail> {
     let alloc = rt.alloc();
     let said = joined(alloc, &[COMMITTED, CRASHED])?;
-    let mut disks = says(&rt, alloc, CRASH, &said)?.into_iter();
+    let mut disks = ends(&rt, alloc, &[], CRASH, NONE, 0, &said)?.into_iter();
     has_the_commit(&rt, alloc, disks.next())?;
     has_heard_of_it(&rt, alloc, disks.next())
-}
-
-#[test]
-fn a_client_aborts_by_what_another_did(rt: HostRuntime) -> Result<(), Fail> {
-    says(&rt, rt.alloc(), CONFLICT, CONFLICTED)?;
-    Ok(())
-}
-
-#[test]
-fn a_transaction_waits_until_a_verdict_comes(rt: HostRuntime) -> Result<(), Fail> {
-    for (input, said) in [(OFFLINE, DRAINED), (LOSSES, SETTLED), (STOPS, BACK)] {
-        says(&rt, rt.alloc(), input, said)?;
-    }
-    Ok(())
 }
 
 /// What is said, in two pieces, if the server's disk fails at this call, and how many commits the disk has then.
@@ -197,12 +121,6 @@ fn a_server_whose_disk_fails_stops(rt: HostRuntime) -> Result<(), Fail> {
             server_stops(&rt, rt.alloc(), device, pick)?;
         }
     }
-    Ok(())
-}
-
-#[test]
-fn a_client_comes_back_from_its_disk(rt: HostRuntime) -> Result<(), Fail> {
-    says(&rt, rt.alloc(), CUT, CUT_OFF)?;
     Ok(())
 }
 

@@ -120,7 +120,8 @@ fn ends(
     told: &mut Vec<u8>,
 ) -> Result<MemDisk, Fail> {
     let ended = ran(alloc, disk, run, told)?;
-    assert_eq!(rt; ended.status, status);
+    let device = run.device;
+    assert_eq!(rt; ended.status, status, "device call {device}");
     Ok(ended.disk)
 }
 
@@ -145,18 +146,6 @@ fn tells(rt: &impl Abort, alloc: Global, told: &[u8], pieces: &[&[u8]]) -> Resul
 /// A disk that reads as these bytes.
 fn disk_of(alloc: Global, bytes: &[u8]) -> Result<MemDisk, AllocError> {
     MemDisk::of(alloc, Vec::from_slice(alloc, bytes)?)
-}
-
-#[test]
-fn two_runs_print_what_one_prints(rt: HostRuntime) -> Result<(), Fail> {
-    let alloc = rt.alloc();
-    let mut told = Vec::new(alloc);
-    let disk = ends(&rt, alloc, MemDisk::new(alloc), plain(TODAY), 0, &mut told)?;
-    tells(&rt, alloc, &told, &PIECES[..4])?;
-    let disk = ends(&rt, alloc, disk, plain(TOMORROW), 0, &mut told)?;
-    tells(&rt, alloc, &told, &PIECES)?;
-    ends(&rt, alloc, disk, plain(b""), 0, &mut told)?;
-    tells(&rt, alloc, &told, &PIECES)
 }
 
 /// This call of the sink fails, before which these pieces were told. The piece at this place is lost by that.
